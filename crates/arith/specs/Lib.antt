@@ -1,0 +1,3 @@
+-- Laws on numbers and lists that more than one crate cites.
+pub mod Booleans
+pub mod Ranges

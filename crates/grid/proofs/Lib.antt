@@ -1,0 +1,5 @@
+-- Laws on the definitions of specs/ that the proofs of this crate and of those above it cite.
+pub mod Samples
+pub mod Numbers
+pub mod Links
+pub mod Walks

@@ -1,0 +1,23 @@
+-- `is_upward` meets its contract.
+use mathlib.Core.Path.{_≡_, ap}
+use mathlib.Core.Bool.{not}
+use Rattle.grid.specs.Layer.{layerOf}
+use Rattle.grid.proofs.Walks.{stick-sample}
+use Rattle.grid.proofs.walk.is_upward.Statement.{statement}
+use Rattle.grid.proofs.walk.is_upward.Tie as tie
+
+is-inside-requires : tie.Need-is-inside-requires
+is-inside-requires c κs =
+    let a = c .before .args in
+    let given = c .before .pre in
+    let inside = stick-sample (layerOf (a .size) (a .bitmap .now)) (given .0) (a .e .vertical) (a .e .column) (a .e .row) (given .1) in
+    (given .0 .whole, inside)
+
+returns : tie.Need-returns
+returns c = rw (c .if1 .taken) (ap not (c .before .is-inside .ensures))
+
+returns-2 : tie.Need-returns-2
+returns-2 c = rw (c .if1 .left) (c .before .is-inside .ensures)
+
+pub is-upward-spec : {M : Type 1} → statement M
+is-upward-spec = tie.close (tie.spec is-inside-requires returns returns-2)

@@ -1,0 +1,13 @@
+-- The first two figures of Counts.
+use Prim.Native.Nat.{ℕ, _*_, _/_, _%_}
+use Rattle.arith.specs.Ranges.{count}
+use Rattle.grid.specs.Layer.{Layer, sample}
+use Rattle.grid.specs.Edges.{edgeCount, edgeAt, isStick}
+
+-- "the inside samples"
+abbrev pub insideCount : Layer → ℕ
+insideCount L = count (λ k. sample L (k % L .size .width) (k / L .size .width)) (L .size .height * L .size .width)
+
+-- "and the sticks"
+abbrev pub stickCount : Layer → ℕ
+stickCount L = count (λ k. isStick L (edgeAt (L .size) k)) (edgeCount (L .size))

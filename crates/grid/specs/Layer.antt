@@ -1,0 +1,32 @@
+-- A layer: its two sides, its bitmap, and the samples that the bitmap holds.
+use mathlib.Core.Bool.{Bool}
+use mathlib.Core.List.{List}
+use Prim.Native.Nat.{ℕ, _+_, _*_, _/_, _%_, _^_}
+use lib.Dec.{eqb}
+use lib.ListN.{getD}
+use Rattle.grid.specs.declared.layer.Size.{Size}
+
+-- "A layer has W columns and H rows": the two in its size, and the bytes of its bitmap
+pub record Layer : Type 0 where
+  pub size : Size
+  pub bitmap : List ℕ
+
+abbrev pub layerOf : Size → List ℕ → Layer
+layerOf size bitmap = record { size = size; bitmap = bitmap }
+
+-- "The bitmap has ceil(W/8) bytes a row"
+abbrev pub stride : Size → ℕ
+stride size = (size .width + 7) / 8
+
+-- byte j of row r
+abbrev pub rowByte : Layer → ℕ → ℕ → ℕ
+rowByte L j r = getD (L .bitmap) (r * stride (L .size) + j) 0
+
+-- bit k of a number, the least significant being bit 0
+unfoldable pub bit : ℕ → ℕ → Bool
+bit x k = eqb (x / 2 ^ k % 2) 1
+
+-- "sample (c,r) is bit c mod 8, least significant first, of byte c div 8 of row r; 1 is inside". It means something for c below W and
+-- r below H alone.
+unfoldable pub sample : Layer → ℕ → ℕ → Bool
+sample L c r = bit (rowByte L (c / 8) r) (c % 8)

@@ -1,0 +1,22 @@
+// A layer's samples and grid edges, the sticks among them, and the step from a stick to the next on its contour; questions 1 to 4.
+mod cell;
+mod edge;
+mod layer;
+mod question;
+mod walk;
+
+pub use edge::Edge;
+pub use edge::edge_at;
+pub use edge::edge_columns;
+pub use edge::edge_count;
+pub use edge::edge_rows;
+pub use edge::kind_start;
+pub use edge::number_of;
+pub use layer::Size;
+pub use layer::is_inside;
+pub use layer::stride_of;
+pub use question::Answer;
+pub use question::Refusal;
+pub use walk::is_upward;
+pub use walk::next_stick;
+pub use walk::previous_stick;

@@ -1,0 +1,43 @@
+-- The hold table: "one 16-bit number per grid edge". An entry taken apart, and questions 5 and 6.
+use mathlib.Core.Bool.{Bool, false, cond, not, _&&_}
+use mathlib.Core.List.{List, [], _∷_, _++_}
+use Prim.Native.Nat.{ℕ, _-_}
+use lib.Dec.{eqb, leb}
+use lib.ListN.{length, getD}
+use Rattle.grid.specs.Layer.{Layer}
+use Rattle.grid.specs.Edges.{edgeCount, edgeAt, isStick}
+use Rattle.grid.specs.Questions.{ask, askEach, layerQuestions}
+use Rattle.grid.specs.declared.question.Refusal.the-variants as Refusal
+use Rattle.grid.specs.declared.question.Answer.{Answer}
+use Rattle.table.specs.declared.entry.Entry.{Entry}
+use Rattle.table.specs.declared.entry.Entry.the-variants.{Nothing, Kept, Removed, Wrong}
+
+-- "0 for no stick, 1 to 255 for a kept vertex at that offset, 256 plus the offset for a removed vertex with the offset it last had"
+unfoldable pub entryOf : ℕ → Entry
+entryOf n =
+    cond (eqb n 0) Nothing
+    (cond (leb n 255) (Kept n)
+    (cond (leb 257 n && leb n 511) (Removed (n - 256))
+    Wrong))
+
+-- "0 off sticks, and 1 to 255 or 257 to 511 on them"
+abbrev pub suits : Bool → Entry → Bool
+suits stick Nothing = not stick
+suits stick (Kept offset) = stick
+suits stick (Removed offset) = stick
+suits stick Wrong = false
+
+-- "5. Is the table's length (W-1)×H + W×(H-1)? (0)"
+unfoldable pub tableLengthAnswer : Layer → List ℕ → Answer
+tableLengthAnswer L t = ask Refusal.TableLength (eqb (length t) (edgeCount (L .size)))
+
+-- questions 1 to 5, which every call on a table is asked first
+abbrev pub lengthQuestions : Layer → List ℕ → List Answer
+lengthQuestions L t = layerQuestions L ++ (tableLengthAnswer L t ∷ [])
+
+-- "6. Is each entry 0 off sticks, and 1 to 255 or 257 to 511 on them? (lowest entry)"
+abbrev pub wrongAt : Layer → List ℕ → ℕ → Bool
+wrongAt L t k = not (suits (isStick L (edgeAt (L .size) k)) (entryOf (getD t k 0)))
+
+unfoldable pub entriesAnswer : Layer → List ℕ → Answer
+entriesAnswer L t = askEach Refusal.WrongEntry (wrongAt L t) (edgeCount (L .size))

@@ -1,0 +1,2 @@
+-- What the promise of Trace says.
+pub mod Trace

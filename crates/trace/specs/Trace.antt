@@ -1,0 +1,33 @@
+-- Trace: "every stick kept at 128".
+use mathlib.Core.Bool.{cond}
+use mathlib.Core.List.{List}
+use Prim.Native.Nat.{ℕ}
+use Rattle.arith.specs.Ranges.{tabulate}
+use Rattle.grid.specs.Layer.{Layer}
+use Rattle.grid.specs.Edges.{edgeCount, edgeAt, isStick}
+use Rattle.grid.specs.Questions.{firstNo, ifAllYes, numberOf}
+use Rattle.table.specs.Entries.{lengthQuestions}
+use Rattle.trace.specs.declared.Traced.{Traced}
+use Rattle.trace.specs.declared.Traced.the-variants.{Done, Refused}
+
+-- the entry of edge k
+abbrev pub tracedEntry : Layer → ℕ → ℕ
+tracedEntry L k = cond (isStick L (edgeAt (L .size) k)) 128 0
+
+-- the number of a refusal and its place, both 0 where the call is done; and the table at exit
+pub record Outcome : Type 0 where
+  pub refusal : ℕ
+  pub place : ℕ
+  pub table : List ℕ
+
+-- Trace of a layer, on the table t that it is lent: "A refusal leaves all buffers as found"
+unfoldable pub traceOf : Layer → List ℕ → Outcome
+traceOf L t =
+    ifAllYes (firstNo (lengthQuestions L t))
+    (λ q place. record { refusal = numberOf q; place = place; table = t })
+    (record { refusal = 0; place = 0; table = tabulate (tracedEntry L) (edgeCount (L .size)) })
+
+-- what an answer and a table at exit say
+abbrev pub outcome : Traced → List ℕ → Outcome
+outcome Done t = record { refusal = 0; place = 0; table = t }
+outcome (Refused q place) t = record { refusal = numberOf q; place = place; table = t }

@@ -1,0 +1,244 @@
+// Slow checks that share no geometry with the calls: points as X, Y and D,
+// segments point by point, contours by flood filling.
+
+use crate::chord::Point;
+use crate::contour::inside_on_left;
+use crate::hold::{drawn_edges, vertex_of, Drawn};
+use crate::layer::Layer;
+
+/// "A point is X, Y and a D above 0, standing for X/D and Y/D in 1/256 of the
+/// pitch."
+#[derive(Clone, Copy)]
+struct Spot {
+    x: i128,
+    y: i128,
+    d: i128,
+}
+
+/// "Two are the same if they agree when multiplied out."
+fn same(p: Spot, q: Spot) -> bool {
+    p.x * q.d == q.x * p.d && p.y * q.d == q.y * p.d
+}
+
+fn spot(p: Point) -> Spot {
+    Spot {
+        x: p.x,
+        y: p.y,
+        d: 1,
+    }
+}
+
+/// "A point lies on a segment if, multiplied out by D, its signed differences
+/// from the two ends have cross product 0 and its coordinates lie between theirs,
+/// ends included."
+fn lies_on(p: Spot, a: Point, b: Point) -> bool {
+    let (ax, ay) = (p.x - a.x * p.d, p.y - a.y * p.d);
+    let (bx, by) = (p.x - b.x * p.d, p.y - b.y * p.d);
+    ax * by - ay * bx == 0 && ax * bx <= 0 && ay * by <= 0
+}
+
+/// The points that lie on both segments: none, one, or two that stand for many.
+fn common(a: Point, b: Point, c: Point, d: Point) -> Vec<Spot> {
+    let (ux, uy) = (b.x - a.x, b.y - a.y);
+    let (vx, vy) = (d.x - c.x, d.y - c.y);
+    let det = ux * vy - uy * vx;
+    let mut candidates = vec![spot(a), spot(b), spot(c), spot(d)];
+    if det != 0 {
+        // a + share / det of the way to b lies on the line through c and d.
+        let share = (c.x - a.x) * vy - (c.y - a.y) * vx;
+        let sign = det.signum();
+        let x = sign * (a.x * det + ux * share);
+        let y = sign * (a.y * det + uy * share);
+        candidates = vec![Spot {
+            x,
+            y,
+            d: sign * det,
+        }];
+    }
+    let mut found: Vec<Spot> = Vec::new();
+    for p in candidates {
+        if lies_on(p, a, b) && lies_on(p, c, d) && !found.iter().any(|&q| same(p, q)) {
+            found.push(p);
+        }
+    }
+    found
+}
+
+/// The two samples of an edge as points.
+fn samples(layer: &Layer, number: usize) -> [Point; 2] {
+    let point = |(c, r): (usize, usize)| Point {
+        x: 256 * c as i128,
+        y: 256 * r as i128,
+    };
+    let [a, b] = layer.edge(number).ends();
+    [point(a), point(b)]
+}
+
+/// Does the segment meet the stick in one point that is neither of its samples?
+pub fn crosses_once(layer: &Layer, a: Point, b: Point, stick: usize) -> bool {
+    let [c, d] = samples(layer, stick);
+    match common(a, b, c, d).as_slice() {
+        [p] => !same(*p, spot(c)) && !same(*p, spot(d)),
+        _ => false,
+    }
+}
+
+fn ends(layer: &Layer, table: &[u16], drawn: &Drawn) -> [Point; 2] {
+    [
+        vertex_of(layer, table, drawn.from),
+        vertex_of(layer, table, drawn.to),
+    ]
+}
+
+/// "A layer is held if each contour has three kept vertices or more and each
+/// drawn edge crosses every removed stick between its ends."
+pub fn contour_is_held(layer: &Layer, contour: &[usize], table: &[u16]) -> bool {
+    let drawn = drawn_edges(contour, table);
+    let kept = contour
+        .iter()
+        .filter(|&&stick| (1..256).contains(&table[stick]))
+        .count();
+    kept >= 3
+        && drawn.iter().all(|edge| {
+            let [a, b] = ends(layer, table, edge);
+            edge.between
+                .iter()
+                .all(|&stick| crosses_once(layer, a, b, stick))
+        })
+}
+
+/// Contours pass between two adjacent samples once where they differ and never
+/// where they agree: counting "different such points on both a drawn edge and the
+/// segment from one sample to the other".
+pub fn passes_once_between(layer: &Layer, drawn: &[Drawn], table: &[u16]) -> bool {
+    (0..layer.edge_count()).all(|number| {
+        let [c, d] = samples(layer, number);
+        let mut points: Vec<Spot> = Vec::new();
+        for edge in drawn {
+            let [a, b] = ends(layer, table, edge);
+            for p in common(a, b, c, d) {
+                if !points.iter().any(|&q| same(p, q)) {
+                    points.push(p);
+                }
+            }
+        }
+        points.len() == layer.is_stick(number) as usize
+    })
+}
+
+/// Drawn edges that are not neighbours share no point; "two drawn edges are
+/// neighbours if one ends at the kept vertex where the other begins", and these
+/// share that one point only.
+pub fn meet_at_vertices_only(layer: &Layer, drawn: &[Drawn], table: &[u16]) -> bool {
+    (0..drawn.len()).all(|i| {
+        (0..i).all(|j| {
+            let [a, b] = ends(layer, table, &drawn[i]);
+            let [c, d] = ends(layer, table, &drawn[j]);
+            let neighbours = drawn[i].to == drawn[j].from || drawn[j].to == drawn[i].from;
+            common(a, b, c, d).len() == neighbours as usize
+        })
+    })
+}
+
+/// The connected parts of the samples that are (or are not) inside: over the four
+/// sides, or over the corners too.
+fn parts(layer: &Layer, inside: bool, corners: bool) -> usize {
+    let mut seen = vec![false; layer.w * layer.h];
+    let mut parts = 0;
+    for start in 0..seen.len() {
+        if seen[start] || layer.sample(start % layer.w, start / layer.w) != inside {
+            continue;
+        }
+        parts += 1;
+        let mut open = vec![start];
+        seen[start] = true;
+        while let Some(at) = open.pop() {
+            for near in neighbours(layer, at, corners) {
+                if !seen[near] && layer.sample(near % layer.w, near / layer.w) == inside {
+                    seen[near] = true;
+                    open.push(near);
+                }
+            }
+        }
+    }
+    parts
+}
+
+fn neighbours(layer: &Layer, at: usize, corners: bool) -> Vec<usize> {
+    let (c, r) = ((at % layer.w) as i64, (at / layer.w) as i64);
+    let mut found = Vec::new();
+    for dr in -1..=1 {
+        for dc in -1..=1 {
+            let far = dc != 0 && dr != 0;
+            let (x, y) = (c + dc, r + dr);
+            let on_grid = x >= 0 && y >= 0 && x < layer.w as i64 && y < layer.h as i64;
+            if on_grid && (corners || !far) && (dc, dr) != (0, 0) {
+                found.push(y as usize * layer.w + x as usize);
+            }
+        }
+    }
+    found
+}
+
+/// How many contours there are: since diagonal inside samples are not linked, one
+/// around each inside part (over sides) and one around each outside part (over
+/// corners) but the outermost.
+pub fn contour_count(layer: &Layer) -> usize {
+    parts(layer, true, false) + parts(layer, false, true) - 1
+}
+
+/// Inside samples and sticks, counted over the samples.
+pub fn inside_and_sticks(layer: &Layer) -> (usize, usize) {
+    let (mut inside, mut sticks) = (0, 0);
+    for r in 0..layer.h {
+        for c in 0..layer.w {
+            let sample = layer.sample(c, r);
+            inside += sample as usize;
+            sticks += (c + 1 < layer.w && layer.sample(c + 1, r) != sample) as usize;
+            sticks += (r + 1 < layer.h && layer.sample(c, r + 1) != sample) as usize;
+        }
+    }
+    (inside, sticks)
+}
+
+/// Do two sticks bound a common square, and have they their inside sample in
+/// common if its two inside samples lie on a diagonal?
+fn linked(layer: &Layer, one: usize, other: usize) -> bool {
+    let [a, b] = layer.edge(one).ends();
+    let [c, d] = layer.edge(other).ends();
+    let corners = [a, b, c, d];
+    let columns = corners.iter().map(|corner| corner.0);
+    let rows = corners.iter().map(|corner| corner.1);
+    let (left, right) = (columns.clone().min().unwrap(), columns.max().unwrap());
+    let (bottom, top) = (rows.clone().min().unwrap(), rows.max().unwrap());
+    if right - left != 1 || top - bottom != 1 {
+        return false;
+    }
+    let sample = |c, r| layer.sample(c, r);
+    let diagonal = sample(left, bottom) == sample(right, top)
+        && sample(right, bottom) == sample(left, top)
+        && sample(left, bottom) != sample(right, bottom);
+    let shared = [a, b].iter().copied().find(|&end| end == c || end == d);
+    !diagonal || shared.map_or(false, |(c, r)| sample(c, r))
+}
+
+/// Each stick stands once in one contour; contours start at their lowest number
+/// and are ordered by it; sticks that follow each other are linked, inside on the
+/// left.
+pub fn contours_are_right(layer: &Layer, contours: &[Vec<usize>]) -> bool {
+    let mut all: Vec<usize> = contours.concat();
+    all.sort_unstable();
+    let sticks: Vec<usize> = (0..layer.edge_count())
+        .filter(|&n| layer.is_stick(n))
+        .collect();
+    let firsts: Vec<usize> = contours.iter().map(|contour| contour[0]).collect();
+    let walks = contours.iter().all(|contour| {
+        let n = contour.len();
+        contour.iter().min() == contour.first()
+            && (0..n).all(|i| {
+                let (one, other) = (contour[i], contour[(i + 1) % n]);
+                linked(layer, one, other) && inside_on_left(layer, one, other)
+            })
+    });
+    all == sticks && walks && firsts.windows(2).all(|pair| pair[0] < pair[1])
+}

@@ -1,0 +1,282 @@
+// The cases of document 01's section 'Cases', starred or not, each with the
+// figures it gives, and the layer program's example.
+
+use crate::contour::contours;
+use crate::layer::Layer;
+use crate::machine::{Answer, Machine};
+use crate::picture::shown;
+use crate::program::program;
+use crate::script::Command;
+
+const SINGLE: &str = "... .#. ...";
+const BAR: &str = "..... .###. .....";
+
+/// A machine with this layer set, and its table as Trace leaves it.
+pub fn traced(layer: &Layer) -> Machine {
+    let mut machine = Machine {
+        w: layer.w as u16,
+        h: layer.h as u16,
+        bitmap: layer.bitmap(),
+        table: vec![7; layer.edge_count()],
+    };
+    machine.run(&Command::Trace);
+    machine
+}
+
+/// What a call on the machine answers.
+pub fn call(machine: &mut Machine, command: Command) -> Answer {
+    machine.run(&command).expect("it is a call")
+}
+
+/// Number, place and figures in one list.
+fn whole(answer: Answer) -> Vec<u64> {
+    [vec![answer.number, answer.place as u64], answer.figures].concat()
+}
+
+/// What a case should give, and what it gave.
+pub struct Check {
+    name: &'static str,
+    wanted: Vec<u64>,
+    found: Vec<u64>,
+}
+
+fn check(name: &'static str, wanted: &[u64], found: Vec<u64>) -> Check {
+    Check {
+        name,
+        wanted: wanted.to_vec(),
+        found,
+    }
+}
+
+/// The table's entries on the single sample's contour.
+fn around(machine: &Machine) -> Vec<u64> {
+    [2, 7, 3, 10]
+        .iter()
+        .map(|&stick| machine.table[stick] as u64)
+        .collect()
+}
+
+/// "W 3, H 3, inside (1,1): entries 2, 7, 3, 10 in contour order, 12 entries in
+/// all", and its smoothing.
+fn single_sample() -> Vec<Check> {
+    let layer = shown(SINGLE);
+    let walk = contours(&layer)
+        .concat()
+        .iter()
+        .map(|&stick| stick as u64)
+        .collect();
+    let mut machine = traced(&layer);
+    let mut checks = vec![
+        check("contour of the single sample", &[2, 7, 3, 10], walk),
+        check(
+            "entries of the single sample",
+            &[12],
+            vec![machine.table.len() as u64],
+        ),
+        check("entries as traced", &[128; 4], around(&machine)),
+    ];
+    let one = whole(call(&mut machine, Command::Smooth { limit: 1 }));
+    checks.push(check("one pass", &[0, 0, 1, 204, 0], one));
+    checks.push(check(
+        "entries after one pass",
+        &[179, 179, 77, 77],
+        around(&machine),
+    ));
+    for limit in [10, 11, 65535] {
+        let mut machine = traced(&layer);
+        let ten = whole(call(&mut machine, Command::Smooth { limit }));
+        checks.push(check("tenth pass", &[0, 0, 10, 0, 1], ten));
+        checks.push(check(
+            "entries after ten passes",
+            &[255, 255, 1, 1],
+            around(&machine),
+        ));
+    }
+    let nine = whole(call(&mut traced(&layer), Command::Smooth { limit: 9 }));
+    checks.push(check("limit 9", &[0, 0, 9, 4, 0], nine));
+    let none = whole(call(&mut traced(&layer), Command::Smooth { limit: 0 }));
+    checks.push(check("limit 0", &[0, 0, 0, 0, 0], none));
+    for limit in [0, 5] {
+        let mut blank = traced(&shown("... ... ..."));
+        let settled = whole(call(&mut blank, Command::Smooth { limit }));
+        checks.push(check("no inside sample", &[0, 0, 0, 0, 1], settled));
+    }
+    checks
+}
+
+/// "Simplify it at T 255: 6 runs tried, none removed"; the bar at T 86 and 85.
+fn simplified() -> Vec<Check> {
+    let at = |layer: &str, t: u8| whole(call(&mut traced(&shown(layer)), Command::Simplify { t }));
+    vec![
+        check("single sample, T 255", &[0, 0, 0, 6], at(SINGLE, 255)),
+        check("bar, T 86", &[0, 0, 4, 6], at(BAR, 86)),
+        check("bar, T 85", &[0, 0, 0, 14], at(BAR, 85)),
+    ]
+}
+
+/// "With its lower middle vertex slid from 128 to 140 first, its removal passes
+/// at T 12 and gives 12 at T 11", in one roll and in two.
+fn slid_bar() -> Vec<Check> {
+    let slide = vec![0x53, 1, 2, 0, 0, 0, 140];
+    let removal = vec![0x58, 1, 2, 0, 0, 0];
+    let end = vec![0x45];
+    let both = [slide.clone(), removal.clone(), end.clone()].concat();
+    let roll = |machine: &mut Machine, t: u8, bytes: Vec<u8>| {
+        whole(call(machine, Command::Roll { t, bytes }))
+    };
+    let mut checks = vec![
+        check(
+            "slide and removal, T 12",
+            &[0, 0, 2],
+            roll(&mut traced(&shown(BAR)), 12, both.clone()),
+        ),
+        check(
+            "slide and removal, T 11",
+            &[12, 7, 1],
+            roll(&mut traced(&shown(BAR)), 11, both),
+        ),
+    ];
+    for (t, wanted, entry) in [(12, [0, 0, 1], 256 + 140), (11, [12, 0, 0], 140)] {
+        let mut machine = traced(&shown(BAR));
+        roll(&mut machine, 0, [slide.clone(), end.clone()].concat());
+        let found = roll(&mut machine, t, [removal.clone(), end.clone()].concat());
+        checks.push(check("removal alone", &wanted, found));
+        checks.push(check(
+            "the entry after it",
+            &[entry],
+            vec![machine.table[14] as u64],
+        ));
+    }
+    checks
+}
+
+/// "W 4, H 4, inside (1,1), (2,2): two contours of 4. The other diagonal: two
+/// also." The slides on the single sample, an E alone and the empty roll.
+fn diagonals_and_rolls() -> Vec<Check> {
+    let sizes = |layer: &str| {
+        contours(&shown(layer))
+            .iter()
+            .map(|contour| contour.len() as u64)
+            .collect()
+    };
+    let roll = |bytes: &[u8]| {
+        let command = Command::Roll {
+            t: 0,
+            bytes: bytes.to_vec(),
+        };
+        whole(call(&mut traced(&shown(SINGLE)), command))
+    };
+    vec![
+        check("one diagonal", &[4, 4], sizes(".... ..#. .#.. ....")),
+        check("the other diagonal", &[4, 4], sizes(".... .#.. ..#. ....")),
+        check(
+            "slide to 0",
+            &[10, 0, 0],
+            roll(&[0x53, 0, 0, 0, 1, 0, 0, 0x45]),
+        ),
+        check(
+            "slide to 255",
+            &[0, 0, 1],
+            roll(&[0x53, 0, 0, 0, 1, 0, 255, 0x45]),
+        ),
+        check("an E alone", &[0, 0, 0], roll(&[0x45])),
+        check("the empty roll", &[8, 0, 0], roll(&[])),
+    ]
+}
+
+/// "W 1: 1. W 1,024: accepted. W 1,025: 1."
+fn widths() -> Vec<Check> {
+    let width = |w: u16| {
+        let (columns, rows) = (w as usize, 2);
+        let mut machine = Machine {
+            w,
+            h: 2,
+            bitmap: vec![0; (columns + 7) / 8 * rows],
+            table: vec![9; (columns - 1) * rows + columns],
+        };
+        whole(call(&mut machine, Command::Trace))
+    };
+    vec![
+        check("W 1", &[1, 0], width(1)),
+        check("W 1,024", &[0, 0], width(1024)),
+        check("W 1,025", &[1, 0], width(1025)),
+    ]
+}
+
+/// "For input hex 4C 03 00 03 00 00 02 00 it writes 4C 03 00 03 00 43 00 00 00 01
+/// 00 4B FF 4B FF 4B 01 4B 01 45", and its refusals.
+fn layer_program() -> Vec<Check> {
+    let run = |input: &[u8]| program(input).iter().map(|&byte| byte as u64).collect();
+    let wanted = [
+        0x4C, 0x03, 0x00, 0x03, 0x00, 0x43, 0x00, 0x00, 0x00, 0x01, 0x00, 0x4B, 0xFF, 0x4B, 0xFF,
+        0x4B, 0x01, 0x4B, 0x01, 0x45,
+    ];
+    vec![
+        check("example", &wanted, run(&[0x4C, 3, 0, 3, 0, 0, 2, 0])),
+        check("no input", &[0x3F, 2], run(&[])),
+        check("a cut L command", &[0x3F, 2], run(&[0x4C, 3, 0, 3])),
+        check(
+            "another first byte",
+            &[0x3F, 2],
+            run(&[0x4D, 3, 0, 3, 0, 0, 2, 0]),
+        ),
+        check("a side of 65", &[0x3F, 1], run(&[0x4C, 65, 0, 3, 0])),
+        check("a side of 1", &[0x3F, 1], run(&[0x4C, 3, 0, 1, 0, 0])),
+        check("a byte short", &[0x3F, 2], run(&[0x4C, 3, 0, 3, 0, 0, 2])),
+        check(
+            "a byte long",
+            &[0x3F, 2],
+            run(&[0x4C, 3, 0, 3, 0, 0, 2, 0, 0]),
+        ),
+        check(
+            "a spare bit",
+            &[0x3F, 3],
+            run(&[0x4C, 3, 0, 3, 0, 0, 10, 1]),
+        ),
+        check(
+            "a border sample",
+            &[0x3F, 4],
+            run(&[0x4C, 3, 0, 3, 0, 0, 2, 1]),
+        ),
+    ]
+}
+
+/// "The planner's list": the single sample as traced, by its digests' figures.
+fn list() -> Vec<Check> {
+    let mut machine = traced(&shown(SINGLE));
+    let mut figures = |items: u32, floats: u32| {
+        let mut answer = whole(call(&mut machine, Command::Planner { items, floats }));
+        answer.truncate(4);
+        answer
+    };
+    vec![
+        check("the list", &[0, 0, 5, 8], figures(5, 8)),
+        check("an item short", &[14, 0, 0, 0], figures(4, 8)),
+        check("a float short", &[14, 0, 0, 0], figures(5, 7)),
+    ]
+}
+
+/// What is wrong with the cases, if anything.
+pub fn wrong() -> Vec<String> {
+    let groups = [
+        single_sample(),
+        simplified(),
+        slid_bar(),
+        diagonals_and_rolls(),
+        widths(),
+        layer_program(),
+        list(),
+    ];
+    let checks = groups
+        .iter()
+        .flatten()
+        .filter(|check| check.wanted != check.found);
+    checks
+        .map(|check| {
+            format!(
+                "{}: {:?} wanted, {:?} found",
+                check.name, check.wanted, check.found
+            )
+        })
+        .collect()
+}

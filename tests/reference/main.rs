@@ -1,0 +1,105 @@
+// The reference that Puzhenim is compared with: every call of document 01, written
+// from that paper alone, and the vectors that both are run on.
+// Build: rustc -O --edition 2021 -o reference tests/reference/main.rs
+
+mod brute;
+mod builder;
+mod cases;
+mod chord;
+mod contour;
+mod hold;
+mod layer;
+mod machine;
+mod picture;
+mod planner;
+mod prng;
+mod program;
+mod refusals;
+mod roll;
+mod script;
+mod sets;
+mod sets_bitmap;
+mod sets_table;
+mod sets_text;
+mod sheet;
+mod show;
+mod simplify;
+mod smooth;
+mod test;
+mod trace;
+
+use std::io::{Read, Write};
+use std::process::ExitCode;
+
+use script::Command;
+
+const USAGE: &str = "usage: reference make NAME | random NAME SEED | answer | show | test [SEED]
+  make    writes the script of the set NAME
+  random  writes the same set made from another seed
+  answer  reads a script and writes the answers to its calls
+  show    reads a script and prints it for a person
+  test    checks the reference itself; silent if all is right";
+
+/// The ways to end without success: how the program was called, or what went
+/// wrong.
+enum Failure {
+    Usage,
+    Message(String),
+}
+
+/// The script on standard input.
+fn read_script() -> Result<Vec<Command>, Failure> {
+    let mut bytes = Vec::new();
+    match std::io::stdin().read_to_end(&mut bytes) {
+        Ok(_) => script::parse(&bytes).map_err(Failure::Message),
+        Err(error) => Err(Failure::Message(error.to_string())),
+    }
+}
+
+fn seed(word: &str) -> Result<u64, Failure> {
+    word.parse().map_err(|_| Failure::Usage)
+}
+
+fn run(words: &[&str]) -> Result<Vec<u8>, Failure> {
+    match words {
+        ["make", name] => sets::script(name, None).ok_or(Failure::Usage),
+        ["random", name, word] => sets::script(name, Some(seed(word)?)).ok_or(Failure::Usage),
+        ["answer"] => Ok(machine::answers(&read_script()?).into_bytes()),
+        ["show"] => Ok(show::show(&read_script()?).into_bytes()),
+        ["test"] => tested(None),
+        ["test", word] => tested(Some(seed(word)?)),
+        _ => Err(Failure::Usage),
+    }
+}
+
+/// Nothing if all tests are right, else what is wrong.
+fn tested(seed: Option<u64>) -> Result<Vec<u8>, Failure> {
+    let wrong = test::wrong(seed);
+    if wrong.is_empty() {
+        return Ok(Vec::new());
+    }
+    Err(Failure::Message(wrong.join("\n")))
+}
+
+fn main() -> ExitCode {
+    let arguments: Vec<String> = std::env::args_os()
+        .skip(1)
+        .map(|word| word.to_string_lossy().into_owned())
+        .collect();
+    let words: Vec<&str> = arguments.iter().map(|word| word.as_str()).collect();
+    match run(&words) {
+        Ok(bytes) => match std::io::stdout().write_all(&bytes) {
+            Ok(()) => ExitCode::SUCCESS,
+            Err(_) => ExitCode::from(1),
+        },
+        Err(Failure::Usage) => {
+            let names: Vec<&str> = sets::SETS.iter().map(|set| set.name).collect();
+            eprintln!("{}\n  sets: {}", USAGE, names.join(", "));
+            ExitCode::from(2)
+        }
+        Err(Failure::Message(message)) => {
+            eprintln!("reference: {}", message);
+            ExitCode::from(1)
+        }
+    }
+}

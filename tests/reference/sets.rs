@@ -1,0 +1,68 @@
+// The sets of vectors: their names, their seeds, and what fills each.
+
+use crate::builder::Builder;
+use crate::sets_bitmap;
+use crate::sets_table;
+use crate::sets_text;
+
+pub struct Set {
+    pub name: &'static str,
+    seed: u64,
+    fill: fn(&mut Builder),
+}
+
+pub const SETS: [Set; 9] = [
+    Set {
+        name: "trace",
+        seed: 101,
+        fill: sets_bitmap::trace,
+    },
+    Set {
+        name: "counts",
+        seed: 102,
+        fill: sets_bitmap::counts,
+    },
+    Set {
+        name: "view",
+        seed: 103,
+        fill: sets_bitmap::view,
+    },
+    Set {
+        name: "smooth",
+        seed: 104,
+        fill: sets_table::smooth,
+    },
+    Set {
+        name: "simplify",
+        seed: 105,
+        fill: sets_table::simplify,
+    },
+    Set {
+        name: "roll",
+        seed: 106,
+        fill: sets_table::roll,
+    },
+    Set {
+        name: "sheet",
+        seed: 107,
+        fill: sets_text::sheet,
+    },
+    Set {
+        name: "planner",
+        seed: 108,
+        fill: sets_text::planner,
+    },
+    Set {
+        name: "layer",
+        seed: 109,
+        fill: sets_text::layer,
+    },
+];
+
+/// The script of the set with this name, from its own seed or another.
+pub fn script(name: &str, seed: Option<u64>) -> Option<Vec<u8>> {
+    let set = SETS.iter().find(|set| set.name == name)?;
+    let mut builder = Builder::new(seed.unwrap_or(set.seed));
+    (set.fill)(&mut builder);
+    Some(builder.finish())
+}

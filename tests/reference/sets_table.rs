@@ -1,0 +1,333 @@
+// The sets of the calls that change vertices: Smooth, Simplify and Roll.
+
+use crate::builder::{edit_bytes, Builder};
+use crate::hold::{is_kept, is_removed};
+use crate::layer::Layer;
+use crate::picture;
+use crate::refusals::{ask_1_to_7, plain, some_removed, Call};
+use crate::script::Command;
+
+const LIMITS: [u16; 7] = [0, 1, 2, 9, 10, 50, 65535];
+const TOLERANCES: [u8; 9] = [0, 1, 11, 12, 64, 85, 86, 128, 255];
+
+/// The layers of document 01's cases.
+fn single() -> Layer {
+    picture::shown("... .#. ...")
+}
+
+fn bar() -> Layer {
+    picture::shown("..... .###. .....")
+}
+
+fn diagonals() -> [Layer; 2] {
+    [
+        picture::shown(".... ..#. .#.. ...."),
+        picture::shown(".... .#.. ..#. ...."),
+    ]
+}
+
+/// Regular layers, smaller ones than those that Trace is tried on.
+fn regular_layers() -> Vec<Layer> {
+    let [one, other] = diagonals();
+    let mut layers = vec![
+        Layer::blank(2, 2),
+        Layer::blank(6, 4),
+        single(),
+        bar(),
+        one,
+        other,
+    ];
+    for (w, h) in [(9, 8), (12, 13)] {
+        layers.push(picture::full(w, h));
+        layers.push(picture::checkerboard(w, h, 0));
+        layers.push(picture::spiral(w, h));
+        layers.push(picture::serpentine(w, h));
+        layers.push(picture::frames(w, h));
+        layers.push(picture::holes(w, h));
+    }
+    layers
+}
+
+/// Sets every vertex to the same offset, and calls.
+fn at_one_offset(b: &mut Builder, layer: &Layer, offset: u16, call: Call) {
+    b.traced(layer);
+    for stick in b.sticks() {
+        b.poke(stick, offset);
+    }
+    call(b);
+}
+
+/// A larger layer of discs, as traced and then smoothed a little.
+fn discs(b: &mut Builder, side: usize) -> Layer {
+    picture::discs(&mut b.rng, side, side, 8)
+}
+
+/// Smooth: B, M, P, T and S only.
+pub fn smooth(b: &mut Builder) {
+    let ten = plain(Command::Smooth { limit: 10 });
+    ask_1_to_7(b, &ten);
+    some_removed(b, &ten, 12);
+    for layer in [single(), Layer::blank(5, 5), bar()] {
+        for limit in LIMITS {
+            b.traced(&layer);
+            b.add(Command::Smooth { limit });
+            b.add(Command::Smooth { limit: 1 });
+        }
+    }
+    for layer in regular_layers() {
+        let limit = b.rng.pick(&LIMITS[2..]);
+        b.traced(&layer);
+        b.add(Command::Smooth { limit });
+    }
+    for offset in [1, 2, 127, 254, 255] {
+        at_one_offset(b, &picture::full(7, 6), offset, &ten);
+        at_one_offset(b, &picture::frames(8, 9), offset, &ten);
+    }
+    for i in 0..70 {
+        let layer = b.some_layer(16);
+        b.traced(&layer);
+        let sixteenths = b.rng.pick(&[0, 4, 16]);
+        b.jitter(sixteenths);
+        b.add(Command::Smooth {
+            limit: LIMITS[i % 7],
+        });
+    }
+    let large = discs(b, 100);
+    b.traced(&large);
+    b.add(Command::Smooth { limit: 1 });
+    b.add(Command::Smooth { limit: 200 });
+}
+
+/// The bar of document 01 with its lower middle vertex slid to 140.
+fn slid_bar(b: &mut Builder) {
+    b.traced(&bar());
+    let lower_middle = 12 + 2;
+    b.poke(lower_middle, 140);
+}
+
+/// Simplify: B, M, P, T, S and Y only.
+pub fn simplify(b: &mut Builder) {
+    let call = plain(Command::Simplify { t: 86 });
+    ask_1_to_7(b, &call);
+    some_removed(b, &call, 12);
+    for layer in [single(), Layer::blank(4, 5), bar()] {
+        for t in TOLERANCES {
+            b.traced(&layer);
+            b.add(Command::Simplify { t });
+        }
+    }
+    for layer in regular_layers() {
+        b.traced(&layer);
+        b.add(Command::Smooth { limit: 3 });
+        let t = b.rng.pick(&TOLERANCES);
+        b.add(Command::Simplify { t });
+    }
+    for i in 0..80 {
+        let layer = b.some_layer(18);
+        b.traced(&layer);
+        let sixteenths = b.rng.pick(&[0, 0, 4, 16]);
+        b.jitter(sixteenths);
+        let limit = b.rng.pick(&[0, 1, 5, 100]);
+        b.add(Command::Smooth { limit });
+        b.add(Command::Simplify {
+            t: TOLERANCES[i % 9],
+        });
+    }
+    let large = discs(b, 100);
+    b.traced(&large);
+    b.add(Command::Smooth { limit: 100 });
+    b.add(Command::Simplify { t: 64 });
+}
+
+/// Rolls that are not well formed, after some edits that would be done.
+fn ill_formed_rolls(b: &mut Builder) {
+    b.traced(&bar());
+    let (slide, removal) = (b.edit(14, Some(140)), b.edit(14, None));
+    let (slide, removal, end): (&[u8], &[u8], &[u8]) = (&slide, &removal, &[0x45]);
+    let mut rolls = vec![Vec::new(), slide.to_vec(), [slide, removal].concat()];
+    for cut in 1..7 {
+        rolls.push(slide[..cut].to_vec());
+        rolls.push([slide, &slide[..cut]].concat());
+        rolls.push([slide, &removal[..cut.min(5)]].concat());
+    }
+    for extra in [0x45, 0x53, 0x58, 0x00, 0xFF] {
+        rolls.push([end, &[extra]].concat());
+        rolls.push([slide, end, &[extra], slide].concat());
+    }
+    for wrong in [0x00, 0x4C, 0x52, 0x65, 0x73, 0x78, 0xFF] {
+        rolls.push(vec![wrong, 0x45]);
+        rolls.push([slide, &[wrong], removal, end].concat());
+    }
+    for bytes in rolls {
+        b.add(Command::Roll { t: 255, bytes });
+    }
+    b.add(Command::Roll {
+        t: 0,
+        bytes: end.to_vec(),
+    });
+}
+
+/// Question 9: sticks off the grid, edges that are no sticks, removed vertices;
+/// 9 before 10.
+fn unknown_sticks(b: &mut Builder) {
+    b.traced(&bar());
+    let removal = b.edit(14, None);
+    b.add(Command::Roll {
+        t: 255,
+        bytes: [&removal[..], &[0x45]].concat(),
+    });
+    let named = [
+        (0, 4, 1),
+        (0, 0, 3),
+        (0, 3, 2),
+        (0, 65535, 0),
+        (0, 0, 65535),
+        (1, 5, 0),
+        (1, 4, 1),
+        (1, 2, 2),
+        (1, 2, 65535),
+        (2, 0, 1),
+        (255, 1, 1),
+        (0, 1, 1),
+        (0, 0, 0),
+        (1, 0, 0),
+        (1, 2, 0),
+    ];
+    let done = b.edit(4, Some(100));
+    for (kind, c, r) in named {
+        for offset in [None, Some(128), Some(0)] {
+            let wrong = edit_bytes(kind, c, r, offset);
+            let before = if b.rng.chance(1, 2) {
+                done.clone()
+            } else {
+                Vec::new()
+            };
+            b.add(Command::Roll {
+                t: 255,
+                bytes: [before, wrong, done.clone(), vec![0x45]].concat(),
+            });
+        }
+    }
+}
+
+/// Document 01's cases: a slide to 0 and to 255, the bar's lower middle vertex.
+fn roll_cases(b: &mut Builder) {
+    for offset in [0, 1, 128, 254, 255] {
+        b.traced(&single());
+        let slide = b.edit(2, Some(offset));
+        b.add(Command::Roll {
+            t: 0,
+            bytes: [&slide[..], &slide, &[0x45]].concat(),
+        });
+    }
+    for t in TOLERANCES {
+        slid_bar(b);
+        let removal = b.edit(14, None);
+        b.add(Command::Roll {
+            t,
+            bytes: [&removal[..], &[0x45]].concat(),
+        });
+        for stick in [2, 7, 3, 10] {
+            b.traced(&single());
+            let removal = b.edit(stick, None);
+            b.add(Command::Roll {
+                t,
+                bytes: [&removal[..], &[0x45]].concat(),
+            });
+        }
+    }
+}
+
+/// A random edit: mostly of a kept vertex, a slide near or far, or a removal.
+fn random_edit(b: &mut Builder, table: &[u16]) -> Vec<u8> {
+    let sticks = b.sticks();
+    let kept: Vec<usize> = sticks
+        .iter()
+        .copied()
+        .filter(|&stick| is_kept(table[stick]))
+        .collect();
+    let stick = match b.rng.chance(1, 60) {
+        true => b.rng.below(table.len()),
+        false => b.rng.pick(&kept),
+    };
+    if b.rng.chance(1, 2) {
+        return b.edit(stick, None);
+    }
+    let near = (table[stick] % 256 + 250 + b.rng.below(13) as u16) % 256;
+    let offset = match b.rng.below(4) {
+        0 => b.rng.below(256) as u8,
+        _ => near as u8,
+    };
+    b.edit(stick, Some(offset))
+}
+
+/// A roll of random edits that are all done, but for the last now and then.
+fn random_roll(b: &mut Builder, t: u8, tries: usize) -> Vec<u8> {
+    let mut table = b.machine.table.clone();
+    let mut bytes = Vec::new();
+    for _ in 0..tries {
+        let edit = random_edit(b, &table);
+        if b.is_done(&mut table, &edit, t) {
+            bytes.extend(edit);
+        } else if b.rng.chance(1, tries) {
+            bytes.extend(edit);
+            break;
+        }
+    }
+    bytes.push(0x45);
+    bytes
+}
+
+/// Slides beside a removed vertex, from end to end: done, or refused by 11 or 12.
+fn slides_beside_removed(b: &mut Builder) {
+    for i in 0..60 {
+        let layer = b.some_layer(10);
+        b.traced(&layer);
+        b.thin(20);
+        let table = b.machine.table.clone();
+        let removed = table.iter().filter(|&&entry| is_removed(entry)).count();
+        let kept: Vec<usize> = (0..table.len()).filter(|&n| is_kept(table[n])).collect();
+        if removed == 0 {
+            continue;
+        }
+        let offset = b.rng.pick(&[1, 30, 100, 128, 160, 220, 255]);
+        let stick = b.rng.pick(&kept);
+        let slide = b.edit(stick, Some(offset));
+        b.add(Command::Roll {
+            t: TOLERANCES[i % 9],
+            bytes: [slide, vec![0x45]].concat(),
+        });
+    }
+}
+
+/// Roll: B, M, P, T, S, Y and R only.
+pub fn roll(b: &mut Builder) {
+    let nothing = plain(Command::Roll {
+        t: 12,
+        bytes: vec![0x45],
+    });
+    ask_1_to_7(b, &nothing);
+    let wrong = plain(Command::Roll {
+        t: 12,
+        bytes: vec![0x46],
+    });
+    crate::refusals::not_held(b, &wrong, 4);
+    ill_formed_rolls(b);
+    unknown_sticks(b);
+    roll_cases(b);
+    slides_beside_removed(b);
+    for i in 0..60 {
+        let layer = b.some_layer(12);
+        b.traced(&layer);
+        if b.rng.chance(1, 2) {
+            b.add(Command::Smooth { limit: 4 });
+        }
+        if b.rng.chance(1, 3) {
+            b.add(Command::Simplify { t: 50 });
+        }
+        let t = TOLERANCES[i % 9];
+        let tries = b.rng.between(1, 40);
+        let bytes = random_roll(b, t, tries);
+        b.add(Command::Roll { t, bytes });
+    }
+}

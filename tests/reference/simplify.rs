@@ -1,0 +1,83 @@
+// Simplify: a contour is cut into two runs, and runs are halved until each
+// passes; the inner vertices of passing runs are removed.
+
+use crate::chord::{crosses, slides_at_most};
+use crate::hold::{ask_1_to_7, ask_all_kept, is_removed, offset, vertex_of};
+use crate::layer::{Layer, Refusal};
+
+/// "The answer is the vertices removed and the runs tried, single edges
+/// included."
+pub struct Simplified {
+    pub removed: usize,
+    pub tried: u64,
+}
+
+/// One contour under a tolerance.
+struct Runs<'a> {
+    layer: &'a Layer,
+    contour: &'a [usize],
+    t: u8,
+    tried: u64,
+}
+
+impl Runs<'_> {
+    fn stick(&self, i: usize) -> usize {
+        self.contour[i % self.contour.len()]
+    }
+
+    /// "A run passes if it is a single edge, or if its chord crosses each stick
+    /// between and each vertex there would slide at most T."
+    fn passes(&self, table: &[u16], start: usize, edges: usize) -> bool {
+        let a = vertex_of(self.layer, table, self.stick(start));
+        let b = vertex_of(self.layer, table, self.stick(start + edges));
+        (start + 1..start + edges).all(|i| {
+            let stick = self.stick(i);
+            let edge = self.layer.edge(stick);
+            crosses(a, b, edge) && slides_at_most(a, b, edge, offset(table[stick]), self.t)
+        })
+    }
+
+    /// "A run that does not pass is split, its first part having half its edges
+    /// rounded down, and each part is tried. Inner vertices of a passing run are
+    /// removed."
+    fn try_run(&mut self, table: &mut [u16], start: usize, edges: usize) {
+        self.tried += 1;
+        if self.passes(table, start, edges) {
+            for i in start + 1..start + edges {
+                table[self.stick(i)] += 256;
+            }
+            return;
+        }
+        let half = edges / 2;
+        self.try_run(table, start, half);
+        self.try_run(table, start + half, edges - half);
+    }
+}
+
+/// "A contour of n vertices is cut into the run from vertex 0 to vertex n div 2
+/// and the run from there back to 0." Questions 1 to 7 and 15.
+pub fn simplify(
+    w: u16,
+    h: u16,
+    bitmap: &[u8],
+    table: &mut [u16],
+    t: u8,
+) -> Result<Simplified, Refusal> {
+    let (layer, contours) = ask_1_to_7(w, h, bitmap, table)?;
+    ask_all_kept(table)?;
+    let mut tried = 0;
+    for contour in &contours {
+        let n = contour.len();
+        let mut runs = Runs {
+            layer: &layer,
+            contour,
+            t,
+            tried: 0,
+        };
+        runs.try_run(table, 0, n / 2);
+        runs.try_run(table, n / 2, n - n / 2);
+        tried += runs.tried;
+    }
+    let removed = table.iter().filter(|&&entry| is_removed(entry)).count();
+    Ok(Simplified { removed, tried })
+}

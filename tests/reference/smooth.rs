@@ -1,0 +1,77 @@
+// Smooth: passes over all vertices, each drawn two fifths of the way towards
+// the segment between its neighbours, until settled or at the limit.
+
+use crate::chord::{meets, Fraction};
+use crate::contour::Contour;
+use crate::hold::{ask_1_to_7, ask_all_kept, offset, vertex_of};
+use crate::layer::{Layer, Refusal};
+
+/// "The answer is passes, last total (0 if none) and settled or limit."
+pub struct Smoothed {
+    pub passes: u64,
+    pub total: u64,
+    pub settled: bool,
+}
+
+/// "The new offset is old + 2/5 of (v - old), rounded once to the nearest whole
+/// number, a half upward": the floor of that value and a half.
+pub fn new_offset(old: u8, v: Fraction) -> u8 {
+    let old = old as i128;
+    // old + 2/5 (num/den - old) = (5 den old + 2 (num - den old)) / (5 den)
+    let top = 5 * v.den * old + 2 * (v.num - v.den * old);
+    let bottom = 5 * v.den;
+    (2 * top + bottom).div_euclid(2 * bottom) as u8
+}
+
+/// "The segment between the neighbours meets the closed stick at v, an exact
+/// fraction in 0 to 256."
+fn slide(layer: &Layer, contour: &[usize], table: &mut [u16], i: usize) -> u64 {
+    let n = contour.len();
+    let stick = contour[i];
+    let before = vertex_of(layer, table, contour[(i + n - 1) % n]);
+    let after = vertex_of(layer, table, contour[(i + 1) % n]);
+    let v = meets(before, after, layer.edge(stick))
+        .expect("the neighbours lie on the two sides of the stick");
+    let old = offset(table[stick]);
+    let new = new_offset(old, v);
+    table[stick] = new as u16;
+    (new as i64 - old as i64).unsigned_abs()
+}
+
+/// "A pass visits vertices in contour order, each using its neighbours as they
+/// then are. ... The pass total is the sum of the absolute changes."
+fn pass(layer: &Layer, contours: &[Contour], table: &mut [u16]) -> u64 {
+    let mut total = 0;
+    for contour in contours {
+        for i in 0..contour.len() {
+            total += slide(layer, contour, table, i);
+        }
+    }
+    total
+}
+
+/// "Smoothing is settled after a pass with 1000×total < 256×vertices, taken over
+/// the layer, or before any pass if there are no vertices. Otherwise it goes on
+/// until the limit." Questions 1 to 7 and 15.
+pub fn smooth(
+    w: u16,
+    h: u16,
+    bitmap: &[u8],
+    table: &mut [u16],
+    limit: u16,
+) -> Result<Smoothed, Refusal> {
+    let (layer, contours) = ask_1_to_7(w, h, bitmap, table)?;
+    ask_all_kept(table)?;
+    let vertices: usize = contours.iter().map(|contour| contour.len()).sum();
+    let mut answer = Smoothed {
+        passes: 0,
+        total: 0,
+        settled: vertices == 0,
+    };
+    while !answer.settled && answer.passes < limit as u64 {
+        answer.total = pass(&layer, &contours, table);
+        answer.passes += 1;
+        answer.settled = 1000 * answer.total < 256 * vertices as u64;
+    }
+    Ok(answer)
+}

@@ -1,0 +1,338 @@
+// The reference's own test: document 01's cases, random layers and calls against
+// slow checks, and the sets of vectors.
+
+use crate::brute;
+use crate::builder::Builder;
+use crate::cases::{self, call, traced};
+use crate::chord::{crosses, meets, vertex, Fraction, Point};
+use crate::contour::contours;
+use crate::hold::{contour_is_held, drawn_edges, is_kept, is_removed, Drawn};
+use crate::layer::Layer;
+use crate::machine::{answers, Machine};
+use crate::picture;
+use crate::planner::planner;
+use crate::prng::Rng;
+use crate::script::{parse, Command};
+use crate::sets::{script, SETS};
+use crate::smooth::new_offset;
+
+/// What is wrong is collected here.
+type Wrong = Vec<String>;
+
+fn expect(wrong: &mut Wrong, right: bool, what: impl Fn() -> String) {
+    if !right {
+        wrong.push(what());
+    }
+}
+
+/// A chord's meeting and crossing of an edge against the points of the segments.
+fn chords(wrong: &mut Wrong, rng: &mut Rng) {
+    let layer = Layer::blank(4, 4);
+    for _ in 0..4000 {
+        let mut end = || {
+            let edge = layer.edge(rng.below(layer.edge_count()));
+            let offset = rng.pick(&[1, 64, 128, 128, 192, 255]);
+            vertex(edge, offset)
+        };
+        let (a, b) = (end(), end());
+        if a == b {
+            continue;
+        }
+        for number in 0..layer.edge_count() {
+            let edge = layer.edge(number);
+            let slow = brute::crosses_once(&layer, a, b, number);
+            let fast = crosses(a, b, edge);
+            expect(wrong, slow == fast, || {
+                format!("crossing of {:?} by {:?} {:?}", edge, a, b)
+            });
+            let on_line = meets(a, b, edge)
+                .map_or(true, |v| lies_on_line(a, b, v, vertex(edge, 0), edge.kind));
+            expect(wrong, on_line, || {
+                format!("meeting of {:?} by {:?} {:?}", edge, a, b)
+            });
+        }
+    }
+}
+
+/// Does the point at offset v of the edge lie on the line through a and b?
+fn lies_on_line(a: Point, b: Point, v: Fraction, origin: Point, kind: u8) -> bool {
+    let along = if kind == 0 { (v.num, 0) } else { (0, v.num) };
+    let x = origin.x * v.den + along.0 - a.x * v.den;
+    let y = origin.y * v.den + along.1 - a.y * v.den;
+    x * (b.y - a.y) == y * (b.x - a.x)
+}
+
+/// The new offset is the whole number k with k - 1/2 <= x < k + 1/2, where x is
+/// old + 2/5 (v - old).
+fn roundings(wrong: &mut Wrong, rng: &mut Rng) {
+    for _ in 0..4000 {
+        let den = rng.pick(&[1, 2, 3, 4, 5, 128, 255, 511, 1000]);
+        let num = rng.below(256 * den + 1) as i128;
+        let (old, den) = (rng.between(1, 255) as u8, den as i128);
+        // 10 den x, to be compared with 10 den k - 5 den and 10 den k + 5 den.
+        let x = 6 * den * old as i128 + 4 * num;
+        let near = (0..=256).find(|k| 10 * den * k - 5 * den <= x && x < 10 * den * k + 5 * den);
+        let new = new_offset(old, Fraction { num, den });
+        let right = near == Some(new as i128) && new >= 1;
+        expect(wrong, right, || {
+            format!("rounding of {} towards {}/{}: {}", old, num, den, new)
+        });
+    }
+}
+
+/// Counts and contours against flood filling and plain counting.
+fn counting(wrong: &mut Wrong, rng: &mut Rng) {
+    for _ in 0..120 {
+        let layer = picture::any(rng, 14);
+        let walks = contours(&layer);
+        expect(wrong, brute::contours_are_right(&layer, &walks), || {
+            format!("contours of {:?}", layer)
+        });
+        let (inside, sticks) = brute::inside_and_sticks(&layer);
+        let wanted = vec![
+            inside as u64,
+            sticks as u64,
+            brute::contour_count(&layer) as u64,
+        ];
+        let found = call(&mut traced(&layer), Command::Counts).figures;
+        expect(wrong, wanted == found, || {
+            format!("counts of {:?}: {:?}", layer, found)
+        });
+    }
+}
+
+/// Whether the table is as the definitions of document 01 ask, by the slow checks
+/// and by those of the calls.
+fn faithful(layer: &Layer, table: &[u16]) -> bool {
+    let walks = contours(layer);
+    let drawn: Vec<Drawn> = walks
+        .iter()
+        .flat_map(|walk| drawn_edges(walk, table))
+        .collect();
+    let entries = (0..table.len()).all(|n| match layer.is_stick(n) {
+        true => is_kept(table[n]) || is_removed(table[n]),
+        false => table[n] == 0,
+    });
+    entries
+        && walks
+            .iter()
+            .all(|walk| brute::contour_is_held(layer, walk, table))
+        && walks.iter().all(|walk| contour_is_held(layer, walk, table))
+        && brute::passes_once_between(layer, &drawn, table)
+        && brute::meet_at_vertices_only(layer, &drawn, table)
+}
+
+/// The figures of Simplify go together: each passing run leaves one drawn edge,
+/// each other one two runs, so kept = tried / 2 + contours.
+fn simplified(wrong: &mut Wrong, machine: &mut Machine, layer: &Layer, t: u8) {
+    let all_kept = !machine.table.iter().any(|&entry| is_removed(entry));
+    let answer = call(machine, Command::Simplify { t });
+    expect(wrong, (answer.number == 0) == all_kept, || {
+        format!("Simplify of {:?}", layer)
+    });
+    if answer.number == 0 {
+        let kept = machine
+            .table
+            .iter()
+            .filter(|&&entry| is_kept(entry))
+            .count() as u64;
+        let right = 2 * kept == answer.figures[1] + 2 * contours(layer).len() as u64;
+        expect(wrong, right, || {
+            format!("runs tried of {:?}: {:?}", layer, answer.figures)
+        });
+    }
+}
+
+/// A sheet is written, has the length of the formula, and reads back the same
+/// over another table.
+fn sheet_and_back(wrong: &mut Wrong, b: &Builder, layer: &Layer) {
+    let sheet = b.sheet();
+    let (_, sticks) = brute::inside_and_sticks(layer);
+    let length = 6 + 6 * brute::contour_count(layer) + 2 * sticks;
+    let mut other = b.machine.clone();
+    other.table = vec![999; other.table.len()];
+    let answer = call(
+        &mut other,
+        Command::ReadSheet {
+            bytes: sheet.clone(),
+        },
+    );
+    let right = answer.number == 0 && other.table == b.machine.table && sheet.len() == length;
+    expect(wrong, right, || format!("sheet of {:?}", layer));
+}
+
+/// The planner's list has the kept vertices, one move and one close per contour,
+/// and coordinates that are 1/256ths on the edges.
+fn listed(wrong: &mut Wrong, machine: &Machine, layer: &Layer) {
+    let kept = machine
+        .table
+        .iter()
+        .filter(|&&entry| is_kept(entry))
+        .count();
+    let walks = brute::contour_count(layer);
+    let mut items = vec![0; kept + walks];
+    let mut floats = vec![-1.0; 2 * kept];
+    let (w, h, bitmap, table) = (machine.w, machine.h, &machine.bitmap, &machine.table);
+    let done = planner(w, h, bitmap, table, &mut items, &mut floats).is_ok();
+    let count = |letter: u8| items.iter().filter(|&&item| item == letter).count();
+    let whole = |x: f64| (x * 256.0).fract() == 0.0;
+    let on_edges = floats.chunks(2).all(|point| {
+        let fractions = (point[0].fract() != 0.0) as u8 + (point[1].fract() != 0.0) as u8;
+        fractions == 1 && whole(point[0]) && whole(point[1])
+    });
+    let right = count(0x4D) == walks && count(0x5A) == walks && count(0x6C) == kept - walks;
+    expect(wrong, done && right && on_edges, || {
+        format!("list of {:?}", layer)
+    });
+}
+
+/// A random edit roll of one to three edits on any edge.
+fn random_roll(b: &mut Builder) -> Vec<u8> {
+    let mut bytes = Vec::new();
+    let sticks = b.sticks();
+    for _ in 0..b.rng.between(1, 3) {
+        let stick = b.rng.pick(&sticks);
+        let offset = b.rng.below(256) as u8;
+        let slide = b.rng.chance(1, 2);
+        bytes.extend(b.edit(stick, if slide { Some(offset) } else { None }));
+    }
+    bytes.push(0x45);
+    bytes
+}
+
+/// One random call on the builder's machine; 13 is never given, since an edge
+/// that would leave two kept vertices misses a stick.
+fn random_call(wrong: &mut Wrong, b: &mut Builder, layer: &Layer) {
+    let t = b.rng.pick(&[0, 12, 64, 128, 255]);
+    match b.rng.below(5) {
+        0 => {
+            b.add(Command::Smooth { limit: 3 });
+        }
+        1 => simplified(wrong, &mut b.machine, layer, t),
+        _ => {
+            let before = b.machine.table.clone();
+            let bytes = random_roll(b);
+            let answer = call(&mut b.machine, Command::Roll { t, bytes });
+            let changed = before
+                .iter()
+                .zip(&b.machine.table)
+                .filter(|(a, b)| a != b)
+                .count();
+            let right = answer.number != 13 && changed as u64 <= answer.figures[0];
+            expect(wrong, right, || format!("roll on {:?}", layer));
+        }
+    }
+}
+
+/// Lists of random calls on small layers; the layer stays faithful.
+fn call_lists(wrong: &mut Wrong, seed: u64) {
+    let mut b = Builder::new(seed);
+    for _ in 0..150 {
+        let layer = b.some_layer(9);
+        b.traced(&layer);
+        for _ in 0..12 {
+            random_call(wrong, &mut b, &layer);
+            let table = &b.machine.table;
+            expect(wrong, faithful(&layer, table), || {
+                format!("{:?} {:?}", layer, table)
+            });
+        }
+        sheet_and_back(wrong, &b, &layer);
+        listed(wrong, &b.machine, &layer);
+    }
+}
+
+/// Held or not: the calls' check against the slow one, with vertices removed at
+/// random.
+fn held_or_not(wrong: &mut Wrong, rng: &mut Rng) {
+    for _ in 0..400 {
+        let layer = picture::blocks(rng, 8);
+        let mut table = traced(&layer).table;
+        for entry in table.iter_mut().filter(|entry| **entry != 0) {
+            *entry = rng.between(1, 255) as u16 + if rng.chance(1, 4) { 256 } else { 0 };
+        }
+        for walk in contours(&layer) {
+            let right = contour_is_held(&layer, &walk, &table)
+                == brute::contour_is_held(&layer, &walk, &table);
+            expect(wrong, right, || format!("held: {:?} {:?}", layer, table));
+        }
+    }
+}
+
+/// The refusal numbers that each set has to give, 0 for done.
+fn wanted_numbers(name: &str) -> Vec<u64> {
+    match name {
+        "trace" | "counts" => vec![0, 1, 2, 3, 4, 5],
+        "view" => vec![0, 1, 2, 3, 4],
+        "smooth" | "simplify" => vec![0, 1, 2, 3, 4, 5, 6, 7, 15],
+        "roll" => vec![0, 1, 2, 3, 4, 5, 6, 7, 8, 9, 10, 11, 12],
+        "sheet" => vec![0, 1, 2, 3, 4, 5, 6, 7, 8, 14],
+        "planner" => vec![0, 1, 2, 3, 4, 5, 6, 7, 14],
+        _ => vec![0],
+    }
+}
+
+/// Each set is a good script below 400 KB with its refusals in it; cut short or
+/// with a byte more it is no script.
+fn sets(wrong: &mut Wrong, seed: Option<u64>) {
+    for set in &SETS {
+        let bytes = script(set.name, seed).expect("the set has this name");
+        let commands = parse(&bytes).expect("a set is a good script");
+        let encoded: Vec<u8> = commands
+            .iter()
+            .flat_map(|command| command.bytes())
+            .collect();
+        let whole = bytes.len() < 400_000 && encoded == bytes[..bytes.len() - 1];
+        expect(wrong, whole, || format!("bytes of the set {}", set.name));
+        let damaged = parse(&bytes[..bytes.len() - 1]).is_err()
+            && parse(&[&bytes[..], &[0]].concat()).is_err();
+        expect(wrong, damaged, || format!("damage of the set {}", set.name));
+        let lines = answers(&commands);
+        let main: Vec<&str> = lines
+            .lines()
+            .filter(|line| is_main(set.name, line))
+            .collect();
+        let numbers: Vec<&str> = main
+            .iter()
+            .filter_map(|line| line.split(' ').nth(1))
+            .collect();
+        expect(wrong, main.len() >= 150, || {
+            format!("calls of the set {}", set.name)
+        });
+        for number in wanted_numbers(set.name) {
+            let given = numbers.contains(&number.to_string().as_str());
+            expect(wrong, given, || {
+                format!("no {} in the set {}", number, set.name)
+            });
+        }
+    }
+}
+
+/// Does the line answer the calls that the set is about?
+fn is_main(name: &str, line: &str) -> bool {
+    let letters = match name {
+        "trace" => "T",
+        "counts" => "N",
+        "view" => "V",
+        "smooth" => "S",
+        "simplify" => "Y",
+        "roll" => "R",
+        "sheet" => "WD",
+        "planner" => "L",
+        _ => "G",
+    };
+    letters.contains(&line[..1])
+}
+
+/// All tests, with random layers from this seed; what is wrong.
+pub fn wrong(seed: Option<u64>) -> Vec<String> {
+    let mut wrong = cases::wrong();
+    let mut rng = Rng(seed.unwrap_or(1));
+    chords(&mut wrong, &mut rng);
+    roundings(&mut wrong, &mut rng);
+    counting(&mut wrong, &mut rng);
+    held_or_not(&mut wrong, &mut rng);
+    call_lists(&mut wrong, rng.next());
+    sets(&mut wrong, seed);
+    wrong
+}
