@@ -107,6 +107,66 @@ pub fn contour_is_held(layer: &Layer, contour: &[usize], table: &[u16]) -> bool 
         })
 }
 
+/// The least whole T that the sticks between the ends of a drawn edge need, from
+/// their vertices to where the edge meets them; nothing if it misses one.
+fn least_tolerance(layer: &Layer, table: &[u16], drawn: &Drawn) -> Option<i128> {
+    let [a, b] = ends(layer, table, drawn);
+    let mut least = 0;
+    for &stick in &drawn.between {
+        let [c, d] = samples(layer, stick);
+        if !crosses_once(layer, a, b, stick) {
+            return None;
+        }
+        let (p, v) = (common(a, b, c, d)[0], vertex_of(layer, table, stick));
+        let slide = (p.x - v.x * p.d).abs() + (p.y - v.y * p.d).abs();
+        least = least.max((slide + p.d - 1) / p.d);
+    }
+    Some(least)
+}
+
+/// The least T with which an edit of this stick is done that leads to this table;
+/// nothing if no T will do.
+pub fn edit_tolerance(
+    layer: &Layer,
+    contour: &[usize],
+    table: &[u16],
+    stick: usize,
+) -> Option<i128> {
+    let drawn = drawn_edges(contour, table);
+    let mut redrawn = drawn
+        .iter()
+        .filter(|edge| edge.from == stick || edge.to == stick || edge.between.contains(&stick));
+    redrawn.try_fold(0, |most, edge| {
+        least_tolerance(layer, table, edge).map(|least| most.max(least))
+    })
+}
+
+/// Simplify on one contour with a list of runs to try: the table after it and the
+/// runs tried.
+pub fn simplify(layer: &Layer, contour: &[usize], table: &mut [u16], t: u8) -> u64 {
+    let n = contour.len();
+    let mut open = vec![(0, n / 2), (n / 2, n)];
+    let mut tried = 0;
+    while let Some((start, end)) = open.pop() {
+        tried += 1;
+        let between: Vec<usize> = (start + 1..end).map(|i| contour[i]).collect();
+        let (from, to) = (contour[start], contour[end % n]);
+        let run = Drawn { from, to, between };
+        match least_tolerance(layer, table, &run) {
+            Some(least) if least <= t as i128 => {
+                for stick in run.between {
+                    table[stick] += 256;
+                }
+            }
+            _ => {
+                let middle = start + (end - start) / 2;
+                open.extend([(start, middle), (middle, end)]);
+            }
+        }
+    }
+    tried
+}
+
 /// Contours pass between two adjacent samples once where they differ and never
 /// where they agree: counting "different such points on both a drawn edge and the
 /// segment from one sample to the other".

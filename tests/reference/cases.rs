@@ -5,11 +5,12 @@ use crate::contour::contours;
 use crate::layer::Layer;
 use crate::machine::{Answer, Machine};
 use crate::picture::shown;
+use crate::places;
 use crate::program::program;
 use crate::script::Command;
 
-const SINGLE: &str = "... .#. ...";
-const BAR: &str = "..... .###. .....";
+pub const SINGLE: &str = "... .#. ...";
+pub const BAR: &str = "..... .###. .....";
 
 /// A machine with this layer set, and its table as Trace leaves it.
 pub fn traced(layer: &Layer) -> Machine {
@@ -29,7 +30,7 @@ pub fn call(machine: &mut Machine, command: Command) -> Answer {
 }
 
 /// Number, place and figures in one list.
-fn whole(answer: Answer) -> Vec<u64> {
+pub fn whole(answer: Answer) -> Vec<u64> {
     [vec![answer.number, answer.place as u64], answer.figures].concat()
 }
 
@@ -40,7 +41,7 @@ pub struct Check {
     found: Vec<u64>,
 }
 
-fn check(name: &'static str, wanted: &[u64], found: Vec<u64>) -> Check {
+pub fn check(name: &'static str, wanted: &[u64], found: Vec<u64>) -> Check {
     Check {
         name,
         wanted: wanted.to_vec(),
@@ -57,49 +58,51 @@ fn around(machine: &Machine) -> Vec<u64> {
 }
 
 /// "W 3, H 3, inside (1,1): entries 2, 7, 3, 10 in contour order, 12 entries in
-/// all", and its smoothing.
+/// all." "One pass on it: 179, 179, 77, 77, total 204."
 fn single_sample() -> Vec<Check> {
     let layer = shown(SINGLE);
-    let walk = contours(&layer)
-        .concat()
-        .iter()
-        .map(|&stick| stick as u64)
-        .collect();
+    let walk = contours(&layer).concat();
     let mut machine = traced(&layer);
-    let mut checks = vec![
-        check("contour of the single sample", &[2, 7, 3, 10], walk),
-        check(
-            "entries of the single sample",
-            &[12],
-            vec![machine.table.len() as u64],
-        ),
-        check("entries as traced", &[128; 4], around(&machine)),
-    ];
+    let entries = machine.table.len() as u64;
+    let at_128 = around(&machine);
     let one = whole(call(&mut machine, Command::Smooth { limit: 1 }));
-    checks.push(check("one pass", &[0, 0, 1, 204, 0], one));
-    checks.push(check(
-        "entries after one pass",
-        &[179, 179, 77, 77],
-        around(&machine),
-    ));
+    vec![
+        check(
+            "contour",
+            &[2, 7, 3, 10],
+            walk.iter().map(|&n| n as u64).collect(),
+        ),
+        check("number of entries", &[12], vec![entries]),
+        check("entries as traced", &[128; 4], at_128),
+        check("one pass", &[0, 0, 1, 204, 0], one),
+        check("entries after it", &[179, 179, 77, 77], around(&machine)),
+    ]
+}
+
+/// "Its tenth pass ends at 255, 255, 1, 1, total 0, settled. Limit 9: total 4, not
+/// settled." "Limit 0: 0 passes, total 0, limit. No inside sample: 0 passes,
+/// settled."
+fn limits() -> Vec<Check> {
+    let at = |layer: &str, limit: u16| {
+        let mut machine = traced(&shown(layer));
+        let answer = whole(call(&mut machine, Command::Smooth { limit }));
+        (answer, machine)
+    };
+    let blank = "... ... ...";
+    let mut checks = vec![
+        check("limit 9", &[0, 0, 9, 4, 0], at(SINGLE, 9).0),
+        check("limit 0", &[0, 0, 0, 0, 0], at(SINGLE, 0).0),
+        check("no inside sample", &[0, 0, 0, 0, 1], at(blank, 0).0),
+        check("no inside sample", &[0, 0, 0, 0, 1], at(blank, 5).0),
+    ];
     for limit in [10, 11, 65535] {
-        let mut machine = traced(&layer);
-        let ten = whole(call(&mut machine, Command::Smooth { limit }));
-        checks.push(check("tenth pass", &[0, 0, 10, 0, 1], ten));
+        let (answer, machine) = at(SINGLE, limit);
+        checks.push(check("tenth pass", &[0, 0, 10, 0, 1], answer));
         checks.push(check(
-            "entries after ten passes",
+            "entries after it",
             &[255, 255, 1, 1],
             around(&machine),
         ));
-    }
-    let nine = whole(call(&mut traced(&layer), Command::Smooth { limit: 9 }));
-    checks.push(check("limit 9", &[0, 0, 9, 4, 0], nine));
-    let none = whole(call(&mut traced(&layer), Command::Smooth { limit: 0 }));
-    checks.push(check("limit 0", &[0, 0, 0, 0, 0], none));
-    for limit in [0, 5] {
-        let mut blank = traced(&shown("... ... ..."));
-        let settled = whole(call(&mut blank, Command::Smooth { limit }));
-        checks.push(check("no inside sample", &[0, 0, 0, 0, 1], settled));
     }
     checks
 }
@@ -256,27 +259,25 @@ fn list() -> Vec<Check> {
     ]
 }
 
-/// What is wrong with the cases, if anything.
+/// What is wrong with these cases, or with those of the questions' places.
 pub fn wrong() -> Vec<String> {
-    let groups = [
+    let groups = vec![
         single_sample(),
+        limits(),
         simplified(),
         slid_bar(),
         diagonals_and_rolls(),
         widths(),
         layer_program(),
         list(),
+        places::checks(),
     ];
-    let checks = groups
-        .iter()
-        .flatten()
-        .filter(|check| check.wanted != check.found);
+    let checks = groups.iter().flatten();
     checks
+        .filter(|check| check.wanted != check.found)
         .map(|check| {
-            format!(
-                "{}: {:?} wanted, {:?} found",
-                check.name, check.wanted, check.found
-            )
+            let (name, wanted, found) = (check.name, &check.wanted, &check.found);
+            format!("{}: {:?} wanted, {:?} found", name, wanted, found)
         })
         .collect()
 }

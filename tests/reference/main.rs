@@ -11,6 +11,7 @@ mod hold;
 mod layer;
 mod machine;
 mod picture;
+mod places;
 mod planner;
 mod prng;
 mod program;
@@ -72,13 +73,14 @@ fn run(words: &[&str]) -> Result<Vec<u8>, Failure> {
     }
 }
 
-/// Nothing if all tests are right, else what is wrong.
+/// Nothing if all tests are right, else what is wrong; a call that breaks down has
+/// said so by then.
 fn tested(seed: Option<u64>) -> Result<Vec<u8>, Failure> {
-    let wrong = test::wrong(seed);
-    if wrong.is_empty() {
-        return Ok(Vec::new());
+    match std::panic::catch_unwind(|| test::wrong(seed)) {
+        Ok(wrong) if wrong.is_empty() => Ok(Vec::new()),
+        Ok(wrong) => Err(Failure::Message(wrong.join("\n"))),
+        Err(_) => Err(Failure::Message("the test broke down".to_string())),
     }
-    Err(Failure::Message(wrong.join("\n")))
 }
 
 fn main() -> ExitCode {

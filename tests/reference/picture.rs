@@ -75,6 +75,13 @@ pub fn holes(w: usize, h: usize) -> Layer {
     drawn(w, h, |c, r| c % 2 == 1 || r % 2 == 1)
 }
 
+/// Single samples, so many in a row and so many rows.
+pub fn lattice(columns: usize, rows: usize) -> Layer {
+    drawn(2 * columns + 1, 2 * rows + 1, |c, r| {
+        c % 2 == 1 && r % 2 == 1
+    })
+}
+
 /// Rows joined at their right and left ends by turns.
 pub fn serpentine(w: usize, h: usize) -> Layer {
     drawn(w, h, |c, r| {

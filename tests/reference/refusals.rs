@@ -61,7 +61,9 @@ pub fn lengths(b: &mut Builder, call: Call) {
     ];
     for (w, h) in sizes {
         let exact = exact_length(w, h);
-        let other = b.rng.pick(&[2 * exact, exact + row_bytes(w), exact - row_bytes(w)]);
+        let other = b
+            .rng
+            .pick(&[2 * exact, exact + row_bytes(w), exact - row_bytes(w)]);
         let rounded_down = w / 8 * h;
         let mut lengths = vec![0, exact - 1, exact + 1, other, 3 * exact + 100];
         if rounded_down != exact && !lengths.contains(&rounded_down) {
@@ -176,7 +178,9 @@ fn with_noes(b: &mut Builder, call: Call, noes: usize) {
     let mut layer = picture::random(&mut b.rng, w, h, 8);
     let exact = layer.edge_count();
     if no(4) {
-        let sample = b.rng.pick(&[(0, 0), (w / 2, 0), (w - 1, h / 2), (w / 3, h - 1)]);
+        let sample = b
+            .rng
+            .pick(&[(0, 0), (w / 2, 0), (w - 1, h / 2), (w / 3, h - 1)]);
         layer.set(sample.0, sample.1, true);
     }
     let mut bytes = layer.bitmap();

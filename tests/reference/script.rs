@@ -162,7 +162,9 @@ impl<'a> Source<'a> {
                 Ok(Command::Roll { t, bytes })
             }
             b'W' => self.length(OUTPUT_LIMIT).map(|n| Command::WriteSheet { n }),
-            b'D' => self.counted(self.bytes.len()).map(|bytes| Command::ReadSheet { bytes }),
+            b'D' => self
+                .counted(self.bytes.len())
+                .map(|bytes| Command::ReadSheet { bytes }),
             b'L' => {
                 let (items, floats) = (self.length(OUTPUT_LIMIT)?, self.length(OUTPUT_LIMIT)?);
                 Ok(Command::Planner { items, floats })
@@ -171,8 +173,13 @@ impl<'a> Source<'a> {
                 let (column, row) = (self.u16()?, self.u16()?);
                 Ok(Command::View { column, row })
             }
-            b'G' => self.counted(self.bytes.len()).map(|bytes| Command::Program { bytes }),
-            _ => Err(format!("unknown command {:#04x} before byte {}", letter, self.at)),
+            b'G' => self
+                .counted(self.bytes.len())
+                .map(|bytes| Command::Program { bytes }),
+            _ => Err(format!(
+                "unknown command {:#04x} before byte {}",
+                letter, self.at
+            )),
         }
     }
 }

@@ -65,11 +65,19 @@ fn square_patterns(b: &mut Builder, call: Call) {
     }
 }
 
-/// Random layers of all sizes up to 40 by 40, from sparse to full; here and there
-/// an entry of the table is set to what a stick or no stick has.
+/// Random layers of all sizes up to 40 by 40, from sparse to full, and of widths
+/// about whole bytes; here and there an entry of the table is set to what a stick
+/// or no stick has.
 fn random_layers(b: &mut Builder, call: Call, times: usize) {
+    let mut layers = Vec::new();
+    for w in [7, 8, 9, 15, 16, 17, 24, 25, 32, 33] {
+        let h = b.rng.between(3, 12);
+        layers.push(picture::random(&mut b.rng, w, h, 8));
+    }
     for _ in 0..times {
-        let layer = picture::any(&mut b.rng, 40);
+        layers.push(picture::any(&mut b.rng, 40));
+    }
+    for layer in layers {
         b.layer(&layer);
         for _ in 0..b.rng.below(3) {
             let number = b.rng.below(layer.edge_count() + 1);
@@ -107,7 +115,7 @@ fn trace_or_counts(b: &mut Builder, call: Call) {
         call(b);
     }
     square_patterns(b, call);
-    random_layers(b, call, 80);
+    random_layers(b, call, 60);
     largest_layer(b, call);
 }
 

@@ -2,9 +2,9 @@
 
 use crate::builder::{edit_bytes, Builder};
 use crate::hold::{is_kept, is_removed};
-use crate::layer::Layer;
+use crate::layer::{Edge, Layer};
 use crate::picture;
-use crate::refusals::{ask_1_to_7, plain, some_removed, Call};
+use crate::refusals::{ask_1_to_7, not_held, plain, some_removed, Call};
 use crate::script::Command;
 
 const LIMITS: [u16; 7] = [0, 1, 2, 9, 10, 50, 65535];
@@ -57,9 +57,41 @@ fn at_one_offset(b: &mut Builder, layer: &Layer, offset: u16, call: Call) {
     call(b);
 }
 
-/// A larger layer of discs, as traced and then smoothed a little.
-fn discs(b: &mut Builder, side: usize) -> Layer {
-    picture::discs(&mut b.rng, side, side, 8)
+/// A larger layer of discs and rings.
+fn discs(b: &mut Builder) -> Layer {
+    picture::discs(&mut b.rng, 100, 100, 8)
+}
+
+/// The sticks about a sample with no inside sample next to it, in contour order.
+fn around(layer: &Layer, c: usize, r: usize) -> [usize; 4] {
+    let number = |kind, c, r| layer.number(Edge { kind, c, r });
+    [
+        number(0, c - 1, r),
+        number(1, c, r - 1),
+        number(0, c, r),
+        number(1, c, r),
+    ]
+}
+
+/// 125 single samples, 500 vertices, all settled but a few, which have a total of
+/// 4 before them: 32 of these make 1000×128 = 256×500, which is not yet settled,
+/// 31 are.
+fn threshold(b: &mut Builder) {
+    let lattice = picture::lattice(25, 5);
+    b.traced(&single());
+    b.add(Command::Smooth { limit: 8 });
+    let before: Vec<u16> = [2, 7, 3, 10].iter().map(|&n| b.machine.table[n]).collect();
+    for (unsettled, limit) in [(31, 2), (32, 1), (32, 2), (33, 2)] {
+        b.traced(&lattice);
+        b.add(Command::Smooth { limit: 100 });
+        for i in 0..unsettled {
+            let sticks = around(&lattice, 1 + 2 * (i % 25), 1 + 2 * (i / 25));
+            for (stick, &offset) in sticks.iter().zip(&before) {
+                b.poke(*stick, offset);
+            }
+        }
+        b.add(Command::Smooth { limit });
+    }
 }
 
 /// Smooth: B, M, P, T and S only.
@@ -92,10 +124,11 @@ pub fn smooth(b: &mut Builder) {
             limit: LIMITS[i % 7],
         });
     }
-    let large = discs(b, 100);
+    let large = discs(b);
     b.traced(&large);
     b.add(Command::Smooth { limit: 1 });
     b.add(Command::Smooth { limit: 200 });
+    threshold(b);
 }
 
 /// The bar of document 01 with its lower middle vertex slid to 140.
@@ -133,7 +166,7 @@ pub fn simplify(b: &mut Builder) {
             t: TOLERANCES[i % 9],
         });
     }
-    let large = discs(b, 100);
+    let large = discs(b);
     b.traced(&large);
     b.add(Command::Smooth { limit: 100 });
     b.add(Command::Simplify { t: 64 });
@@ -167,45 +200,66 @@ fn ill_formed_rolls(b: &mut Builder) {
     });
 }
 
-/// Question 9: sticks off the grid, edges that are no sticks, removed vertices;
-/// 9 before 10.
+/// Kind, column and row of what carries no kept vertex on the bar without its
+/// lower middle vertex: edges off the grid, then edges that are no sticks, then
+/// that vertex.
+const NO_KEPT_VERTEX: [(u8, u16, u16); 16] = [
+    (0, 4, 1),
+    (0, 0, 3),
+    (0, 65535, 0),
+    (0, 0, 65535),
+    (1, 5, 0),
+    (1, 2, 2),
+    (1, 2, 65535),
+    (1, 257, 0),
+    (2, 0, 1),
+    (255, 1, 1),
+    (0, 3, 2),
+    (0, 1, 1),
+    (0, 0, 0),
+    (1, 0, 0),
+    (1, 4, 1),
+    (1, 2, 0),
+];
+
+/// Question 9, with slides to 0 too: 9 comes before 10.
 fn unknown_sticks(b: &mut Builder) {
     b.traced(&bar());
-    let removal = b.edit(14, None);
-    b.add(Command::Roll {
-        t: 255,
-        bytes: [&removal[..], &[0x45]].concat(),
-    });
-    let named = [
-        (0, 4, 1),
-        (0, 0, 3),
-        (0, 3, 2),
-        (0, 65535, 0),
-        (0, 0, 65535),
-        (1, 5, 0),
-        (1, 4, 1),
-        (1, 2, 2),
-        (1, 2, 65535),
-        (2, 0, 1),
-        (255, 1, 1),
-        (0, 1, 1),
-        (0, 0, 0),
-        (1, 0, 0),
-        (1, 2, 0),
-    ];
-    let done = b.edit(4, Some(100));
-    for (kind, c, r) in named {
+    let (removal, done) = (b.edit(14, None), b.edit(4, Some(100)));
+    let end = vec![0x45];
+    let bytes = [removal, end.clone()].concat();
+    b.add(Command::Roll { t: 255, bytes });
+    for (kind, c, r) in NO_KEPT_VERTEX {
         for offset in [None, Some(128), Some(0)] {
+            let times = b.rng.below(3);
+            let before = done.repeat(times);
             let wrong = edit_bytes(kind, c, r, offset);
-            let before = if b.rng.chance(1, 2) {
-                done.clone()
-            } else {
-                Vec::new()
-            };
-            b.add(Command::Roll {
-                t: 255,
-                bytes: [before, wrong, done.clone(), vec![0x45]].concat(),
-            });
+            let bytes = [before, wrong, done.clone(), end.clone()].concat();
+            b.add(Command::Roll { t: 255, bytes });
+        }
+    }
+}
+
+/// Question 10: slides to 0 of each vertex of the bar, after others that are done.
+fn slides_to_zero(b: &mut Builder) {
+    b.traced(&bar());
+    for stick in b.sticks() {
+        let times = b.rng.below(3);
+        let (done, zero) = (b.edit(stick, Some(77)), b.edit(stick, Some(0)));
+        let bytes = [done.repeat(times), zero, done, vec![0x45]].concat();
+        b.add(Command::Roll { t: 255, bytes });
+    }
+}
+
+/// Edits of a bar that is wider than 256 samples, or higher.
+fn far_sticks(b: &mut Builder) {
+    for (w, h) in [(300, 3), (3, 300)] {
+        b.traced(&picture::full(w, h));
+        let sticks = b.sticks();
+        for i in 0..4 {
+            let stick = sticks[sticks.len() - 1 - 30 * i];
+            let bytes = [b.edit(stick, Some(90)), b.edit(stick, None), vec![0x45]].concat();
+            b.add(Command::Roll { t: 38, bytes });
         }
     }
 }
@@ -261,16 +315,19 @@ fn random_edit(b: &mut Builder, table: &[u16]) -> Vec<u8> {
     b.edit(stick, Some(offset))
 }
 
-/// A roll of random edits that are all done, but for the last now and then.
+/// A roll of random edits that are all done; in about half of the rolls all but
+/// the last two.
 fn random_roll(b: &mut Builder, t: u8, tries: usize) -> Vec<u8> {
     let mut table = b.machine.table.clone();
     let mut bytes = Vec::new();
-    for _ in 0..tries {
+    let may_fail = b.rng.below(2 * tries);
+    for i in 0..tries {
         let edit = random_edit(b, &table);
         if b.is_done(&mut table, &edit, t) {
             bytes.extend(edit);
-        } else if b.rng.chance(1, tries) {
+        } else if i >= may_fail {
             bytes.extend(edit);
+            bytes.extend(random_edit(b, &table));
             break;
         }
     }
@@ -311,9 +368,11 @@ pub fn roll(b: &mut Builder) {
         t: 12,
         bytes: vec![0x46],
     });
-    crate::refusals::not_held(b, &wrong, 4);
+    not_held(b, &wrong, 4);
     ill_formed_rolls(b);
     unknown_sticks(b);
+    slides_to_zero(b);
+    far_sticks(b);
     roll_cases(b);
     slides_beside_removed(b);
     for i in 0..60 {

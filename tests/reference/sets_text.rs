@@ -1,11 +1,11 @@
 // The sets of what is written out and read in: sheets, the planner's list and
 // the layer program.
 
-use crate::builder::Builder;
+use crate::builder::{exact_length, Builder};
 use crate::hold::is_kept;
 use crate::layer::Layer;
 use crate::picture;
-use crate::refusals::{ask_1_to_7, first_no_wins, plain};
+use crate::refusals::{ask_1_to_7, plain, some_noes};
 use crate::script::Command;
 
 /// A layer with its table traced, smoothed, simplified or thinned.
@@ -125,12 +125,16 @@ fn sheet_of_another(b: &mut Builder) {
 pub fn sheet(b: &mut Builder) {
     ask_1_to_7(b, &plain(Command::WriteSheet { n: 600 }));
     ask_1_to_7(b, &plain(Command::WriteSheet { n: 3 }));
-    first_no_wins(b, &plain(Command::ReadSheet { bytes: vec![0x4C] }));
+    some_noes(b, &plain(Command::ReadSheet { bytes: vec![0x4C] }));
     for layer in first_layers() {
         write_and_read(b, &layer);
     }
     for _ in 0..20 {
         let layer = b.some_layer(14);
+        write_and_read(b, &layer);
+    }
+    for (w, h) in [(600, 3), (4, 600)] {
+        let layer = picture::random(&mut b.rng, w, h, 2);
         write_and_read(b, &layer);
     }
     damaged_example(b);
@@ -213,23 +217,21 @@ pub fn program_input(layer: &Layer) -> Vec<u8> {
     bytes
 }
 
-/// Inputs with wrong sides, lengths, spare bits and border samples.
-fn refused_inputs(b: &mut Builder) {
+/// Inputs that are cut short, too long, or have another first byte or wrong sides.
+fn ill_formed_inputs(b: &mut Builder) {
     let good = program_input(&picture::shown("... .#. ..."));
     for cut in 0..good.len() {
-        b.add(Command::Program {
-            bytes: good[..cut].to_vec(),
-        });
+        let bytes = good[..cut].to_vec();
+        b.add(Command::Program { bytes });
     }
-    b.add(Command::Program {
-        bytes: [&good[..], &[0]].concat(),
-    });
+    let bytes = [&good[..], &[0]].concat();
+    b.add(Command::Program { bytes });
     for first in [0x00, 0x43, 0x6C, 0xFF] {
-        b.add(Command::Program {
-            bytes: [&[first], &good[1..]].concat(),
-        });
+        let mut bytes = good.clone();
+        bytes[0] = first;
+        b.add(Command::Program { bytes });
     }
-    for (w, h) in [
+    let sides: [(u16, u16); 8] = [
         (0, 3),
         (1, 3),
         (3, 0),
@@ -238,16 +240,23 @@ fn refused_inputs(b: &mut Builder) {
         (3, 65),
         (1024, 3),
         (3, 65535),
-    ] {
-        let head = [&[0x4C][..], &u16::to_le_bytes(w), &u16::to_le_bytes(h)].concat();
-        b.add(Command::Program {
-            bytes: head.clone(),
-        });
-        let n = (w as usize + 7) / 8 * h as usize;
-        b.add(Command::Program {
-            bytes: [head, vec![0; n.min(500)]].concat(),
-        });
+    ];
+    for (w, h) in sides {
+        let head = [
+            vec![0x4C],
+            w.to_le_bytes().to_vec(),
+            h.to_le_bytes().to_vec(),
+        ]
+        .concat();
+        let n = exact_length(w as usize, h as usize).min(500);
+        let bytes = [head.clone(), vec![0; n]].concat();
+        b.add(Command::Program { bytes: head });
+        b.add(Command::Program { bytes });
     }
+}
+
+/// Inputs with a bit or two turned: mostly spare bits and border samples.
+fn damaged_inputs(b: &mut Builder) {
     for _ in 0..60 {
         let layer = picture::any(&mut b.rng, 20);
         let mut bytes = program_input(&layer);
@@ -261,7 +270,8 @@ fn refused_inputs(b: &mut Builder) {
 
 /// The layer program: G only.
 pub fn layer(b: &mut Builder) {
-    refused_inputs(b);
+    ill_formed_inputs(b);
+    damaged_inputs(b);
     for layer in first_layers() {
         b.add(Command::Program {
             bytes: program_input(&layer),

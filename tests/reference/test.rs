@@ -122,25 +122,61 @@ fn faithful(layer: &Layer, table: &[u16]) -> bool {
         && brute::meet_at_vertices_only(layer, &drawn, table)
 }
 
-/// The figures of Simplify go together: each passing run leaves one drawn edge,
-/// each other one two runs, so kept = tried / 2 + contours.
+/// Simplify against the slow one; it is refused where a vertex is removed.
 fn simplified(wrong: &mut Wrong, machine: &mut Machine, layer: &Layer, t: u8) {
-    let all_kept = !machine.table.iter().any(|&entry| is_removed(entry));
+    let mut table = machine.table.clone();
+    let all_kept = !table.iter().any(|&entry| is_removed(entry));
     let answer = call(machine, Command::Simplify { t });
-    expect(wrong, (answer.number == 0) == all_kept, || {
-        format!("Simplify of {:?}", layer)
-    });
-    if answer.number == 0 {
-        let kept = machine
-            .table
-            .iter()
-            .filter(|&&entry| is_kept(entry))
-            .count() as u64;
-        let right = 2 * kept == answer.figures[1] + 2 * contours(layer).len() as u64;
-        expect(wrong, right, || {
-            format!("runs tried of {:?}: {:?}", layer, answer.figures)
-        });
+    let walks = contours(layer);
+    let mut tried = 0;
+    for walk in walks.iter().filter(|_| all_kept) {
+        tried += brute::simplify(layer, walk, &mut table, t);
     }
+    let removed = table.iter().filter(|&&entry| is_removed(entry)).count() as u64;
+    let wanted = if all_kept {
+        vec![removed, tried]
+    } else {
+        vec![0, 0]
+    };
+    let right = answer.figures == wanted && machine.table == table;
+    expect(wrong, right && (answer.number == 0) == all_kept, || {
+        format!("Simplify of {:?}: {:?}", layer, answer.figures)
+    });
+}
+
+/// The refusal that a roll of one edit gives on a copy of the machine.
+fn outcome(machine: &Machine, edit: &[u8], t: i128) -> u64 {
+    let bytes = [edit, &[0x45]].concat();
+    call(&mut machine.clone(), Command::Roll { t: t as u8, bytes }).number
+}
+
+/// One random edit of a kept vertex against the slow checks: 11 if no T will do,
+/// else done with the least T and 12 below it.
+fn edits(wrong: &mut Wrong, b: &mut Builder, layer: &Layer) {
+    let mut table = b.machine.table.clone();
+    let kept: Vec<usize> = (0..table.len()).filter(|&n| is_kept(table[n])).collect();
+    let stick = b.rng.pick(&kept);
+    let offset = b.rng.between(1, 255) as u8;
+    let slide = if b.rng.chance(1, 2) {
+        Some(offset)
+    } else {
+        None
+    };
+    table[stick] = slide.map_or(table[stick] + 256, |offset| offset as u16);
+    let walks = contours(layer);
+    let walk = walks
+        .iter()
+        .find(|walk| walk.contains(&stick))
+        .expect("a stick is on one");
+    let edit = b.edit(stick, slide);
+    let right = match brute::edit_tolerance(layer, walk, &table, stick) {
+        None => outcome(&b.machine, &edit, 255) == 11,
+        Some(0) => outcome(&b.machine, &edit, 0) == 0,
+        Some(t) => outcome(&b.machine, &edit, t) == 0 && outcome(&b.machine, &edit, t - 1) == 12,
+    };
+    expect(wrong, right, || {
+        format!("edit {:?} on {:?} {:?}", edit, layer, b.machine.table)
+    });
 }
 
 /// A sheet is written, has the length of the formula, and reads back the same
@@ -232,6 +268,7 @@ fn call_lists(wrong: &mut Wrong, seed: u64) {
         b.traced(&layer);
         for _ in 0..12 {
             random_call(wrong, &mut b, &layer);
+            edits(wrong, &mut b, &layer);
             let table = &b.machine.table;
             expect(wrong, faithful(&layer, table), || {
                 format!("{:?} {:?}", layer, table)
@@ -287,6 +324,7 @@ fn sets(wrong: &mut Wrong, seed: Option<u64>) {
         let damaged = parse(&bytes[..bytes.len() - 1]).is_err()
             && parse(&[&bytes[..], &[0]].concat()).is_err();
         expect(wrong, damaged, || format!("damage of the set {}", set.name));
+        refusals_write_nothing(wrong, &commands);
         let lines = answers(&commands);
         let main: Vec<&str> = lines
             .lines()
@@ -305,6 +343,32 @@ fn sets(wrong: &mut Wrong, seed: Option<u64>) {
                 format!("no {} in the set {}", number, set.name)
             });
         }
+    }
+}
+
+/// "A refusal leaves all buffers as found, but for earlier commands of a roll."
+fn refusals_write_nothing(wrong: &mut Wrong, commands: &[Command]) {
+    let mut machine = Machine::default();
+    for command in commands {
+        let is_roll = matches!(command, Command::Roll { .. });
+        let before = machine.table.clone();
+        if let Some(answer) = machine.run(command) {
+            let may_write = answer.number == 0 || (is_roll && answer.figures[0] > 0);
+            expect(wrong, may_write || machine.table == before, || {
+                format!("a refused {:?} wrote", command)
+            });
+        }
+    }
+}
+
+/// "1000×total < 256×vertices": at 500 vertices a total of 128 is not below, 124
+/// is; the set for Smooth has both.
+fn settling(wrong: &mut Wrong) {
+    let bytes = script("smooth", None).expect("the set has this name");
+    let lines = answers(&parse(&bytes).expect("a set is a good script"));
+    for start in ["S 0 0 1 124 1 ", "S 0 0 1 128 0 "] {
+        let found = lines.lines().any(|line| line.starts_with(start));
+        expect(wrong, found, || format!("no answer {}", start));
     }
 }
 
@@ -334,5 +398,6 @@ pub fn wrong(seed: Option<u64>) -> Vec<String> {
     held_or_not(&mut wrong, &mut rng);
     call_lists(&mut wrong, rng.next());
     sets(&mut wrong, seed);
+    settling(&mut wrong);
     wrong
 }

@@ -1,12 +1,12 @@
 -- Functions on the numbers below a bound: the list of their values, how many pass a test, the least that does, and a list in which a
 -- range of entries is replaced; with the laws by which a loop grows a range and joins two.
-use mathlib.Core.Path.{_≡_, refl, ap, sym, _∙_}
+use mathlib.Core.Path.{_≡_, refl, ap, sym, subst, _∙_}
 use mathlib.Core.Bool.{Bool, true, false, cond}
 use mathlib.Core.List.{List, [], _∷_}
-use Prim.Native.Nat.{ℕ, zero, suc, _+_, _≤_, _<_}
+use Prim.Native.Nat.{ℕ, zero, suc, _+_, _-_, _≤_, _<_}
 use native.Mathlib.Nat.{add-zero, add-suc, zero-add, add-assoc}
 use native.Mathlib.Numerals.{add-one}
-use native.Mathlib.Decide.{ℕ-discrete}
+use native.Mathlib.Decide.{ℕ-discrete, decLt}
 use native.Mathlib.Omega.{arith}
 use lib.ListN.{length, getD, set, length-set}
 use lib.Seq.{getD-set-same, getD-set-other, ext-getD}
@@ -39,6 +39,17 @@ least f n = leastFrom f 0 n
 unfoldable pub fill : (ℕ → ℕ) → ℕ → ℕ → List ℕ → List ℕ
 fill f a zero t = t
 fill f a (suc n) t = set (fill f a n t) (a + n) (f (a + n))
+
+-- Two ranges joined
+
+pub below-add : (P : ℕ → Type 0) (n m : ℕ) → ((k : ℕ) → k < n → P k) → ((j : ℕ) → j < m → P (n + j)) → (k : ℕ) → k < n + m → P k
+below-add P n m low high k h = elim (decLt k n) [
+  | yes l ↦ low k l
+  | no g ↦ subst P (add-back g) (high (k - n) (omega arith))
+]
+  where
+    add-back : ¬ (k < n) → n + (k - n) ≡ k
+    add-back g = omega arith
 
 -- Lists of values
 
@@ -129,6 +140,11 @@ leastFrom-le f i zero = omega arith
 leastFrom-le f i (suc n) = both-sides (f i)
     (λ t. rw t (omega arith))
     (λ e. rw e (omega (arith, leastFrom-le f (suc i) n)))
+
+pub leastFrom-same : (f g : ℕ → Bool) (i n : ℕ) → ((k : ℕ) → f k ≡ g k) → leastFrom f i n ≡ leastFrom g i n
+unfolding leastFrom
+leastFrom-same f g i zero h = refl
+leastFrom-same f g i (suc n) h = rw (h i, leastFrom-same f g (suc i) n h)
 
 -- Replacing a range
 

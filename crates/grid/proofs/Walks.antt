@@ -1,22 +1,23 @@
 -- Successor and predecessor on a layer that passes questions 1 to 4: both lead from stick to stick within the grid, each undoes the other,
 -- and successive sticks are two different sides of one cell, which the walk enters by the first and leaves by the second.
 use mathlib.Core.Path.{_≡_, refl, ap, sym, subst, _∙_}
-use mathlib.Core.Bool.{Bool, true, false, true≢false, false≢true, cond, not, xor, _&&_, _||_, Bool·beq, or-true}
+use mathlib.Core.Bool.{Bool, true, false, true≢false, false≢true, cond, not, xor, _&&_, _||_, Bool·beq}
 use Prim.Native.Nat.{ℕ, _+_, _-_, _≤_, _<_}
 use native.Mathlib.Decide.{ℕ-discrete}
 use native.Mathlib.Omega.{arith}
-use borrow.Author.Tests.{lt-ltb, eq-eqb}
-use lib.Dec.{T, eqb}
+use borrow.Author.Tests.{lt-ltb}
+use lib.Dec.{T}
 use Rattle.arith.specs.Booleans.{and-split, beq→eq}
 use Rattle.grid.specs.Layer.{Layer, sample}
 use Rattle.grid.specs.Edges.{isStick, inGrid, firstEnd, secondEnd}
 use Rattle.grid.specs.Cells.{corners, cut, partner, link, edgeOf}
 use Rattle.grid.specs.Walk.{upward, beside, ahead, behind, next, prev}
-use Rattle.grid.specs.Questions.{Sound, onBorder, borderInside}
+use Rattle.grid.specs.Questions.{Sound, onBorder}
 use Rattle.grid.specs.declared.edge.Edge.{Edge}
 use Rattle.grid.specs.declared.cell.CellSide.{CellSide}
 use Rattle.grid.specs.declared.cell.Side.{Side}
 use Rattle.grid.specs.declared.cell.Side.the-variants.{South, East, North, West}
+use Rattle.grid.proofs.Borders.{west, east, bottom, top}
 use Rattle.grid.proofs.Numbers.{Within, within, in-grid}
 use Rattle.grid.proofs.Links.{sameSide, left, partner-partner, partner-cut, partner-other, partner-turns}
 
@@ -96,18 +97,6 @@ module _ (L : Layer) (sound : Sound L) where
   outside : (c r : ℕ) → c < L .size .width → r < L .size .height → onBorder L c r ≡ true → sample L c r ≡ false
   outside c r hc hr b = and-false (onBorder L c r) (sample L c r) (sound .border c r hc hr) b
 
-  west : (c r : ℕ) → c ≡ 0 → onBorder L c r ≡ true
-  west c r e = rw (eq-eqb c 0 e)
-
-  east : (c r : ℕ) → c ≡ L .size .width - 1 → onBorder L c r ≡ true
-  east c r e = rw (eq-eqb c (L .size .width - 1) e, or-true (eqb c 0))
-
-  bottom : (c r : ℕ) → r ≡ 0 → onBorder L c r ≡ true
-  bottom c r e = rw (eq-eqb r 0 e, or-true (eqb c 0 || eqb c (L .size .width - 1)))
-
-  top : (c r : ℕ) → r ≡ L .size .height - 1 → onBorder L c r ≡ true
-  top c r e = rw (eq-eqb r (L .size .height - 1) e, or-true (eqb c 0 || eqb c (L .size .width - 1) || eqb r 0))
-
   -- a stick does not lie along the border
   pub inner-row : (c r : ℕ) → isStick L (edge false c r) ≡ true → (1 ≤ r) × (r + 1 < L .size .height)
   inner-row c r h =
@@ -116,8 +105,8 @@ module _ (L : Layer) (sound : Sound L) where
       λ a b. same-ends (sample L c r) (sample L (c + 1) r)
       (outside c r (omega arith) (w .row-below) a) (outside (c + 1) r (omega arith) (w .row-below) b)
       (stick-differs (edge false c r) h) in (
-        elim (ℕ-discrete r 0) [ yes e ↦ absurd (both (bottom c r e) (bottom (c + 1) r e)) | no n ↦ omega arith ],
-        elim (ℕ-discrete r (L .size .height - 1)) [ yes e ↦ absurd (both (top c r e) (top (c + 1) r e)) | no n ↦ omega arith ],
+        elim (ℕ-discrete r 0) [ yes e ↦ absurd (both (bottom L c r e) (bottom L (c + 1) r e)) | no n ↦ omega arith ],
+        elim (ℕ-discrete r (L .size .height - 1)) [ yes e ↦ absurd (both (top L c r e) (top L (c + 1) r e)) | no n ↦ omega arith ],
       )
 
   pub inner-column : (c r : ℕ) → isStick L (edge true c r) ≡ true → (1 ≤ c) × (c + 1 < L .size .width)
@@ -127,8 +116,8 @@ module _ (L : Layer) (sound : Sound L) where
       λ a b. same-ends (sample L c r) (sample L c (r + 1))
       (outside c r (w .column-below) (omega arith) a) (outside c (r + 1) (w .column-below) (omega arith) b)
       (stick-differs (edge true c r) h) in (
-        elim (ℕ-discrete c 0) [ yes e ↦ absurd (both (west c r e) (west c (r + 1) e)) | no n ↦ omega arith ],
-        elim (ℕ-discrete c (L .size .width - 1)) [ yes e ↦ absurd (both (east c r e) (east c (r + 1) e)) | no n ↦ omega arith ],
+        elim (ℕ-discrete c 0) [ yes e ↦ absurd (both (west L c r e) (west L c (r + 1) e)) | no n ↦ omega arith ],
+        elim (ℕ-discrete c (L .size .width - 1)) [ yes e ↦ absurd (both (east L c r e) (east L c (r + 1) e)) | no n ↦ omega arith ],
       )
 
   pub stick-sample : (v : Bool) (c r : ℕ) → isStick L (edge v c r) ≡ true → (c < L .size .width) × (r < L .size .height)

@@ -1,12 +1,12 @@
 -- The first two figures of Counts.
-use Prim.Native.Nat.{ℕ, _*_, _/_, _%_}
+use Prim.Native.Nat.{ℕ, _*_}
 use Rattle.arith.specs.Ranges.{count}
-use Rattle.grid.specs.Layer.{Layer, sample}
+use Rattle.grid.specs.Layer.{Layer, sampleAt}
 use Rattle.grid.specs.Edges.{edgeCount, edgeAt, isStick}
 
 -- "the inside samples"
 abbrev pub insideCount : Layer → ℕ
-insideCount L = count (λ k. sample L (k % L .size .width) (k / L .size .width)) (L .size .height * L .size .width)
+insideCount L = count (sampleAt L) (L .size .height * L .size .width)
 
 -- "and the sticks"
 abbrev pub stickCount : Layer → ℕ

@@ -1,7 +1,7 @@
 -- A layer: its two sides, its bitmap, and the samples that the bitmap holds.
 use mathlib.Core.Bool.{Bool}
 use mathlib.Core.List.{List}
-use Prim.Native.Nat.{ℕ, _+_, _*_, _/_, _%_, _^_}
+use Prim.Native.Nat.{ℕ, _+_, _-_, _*_, _/_, _%_, _^_}
 use lib.Dec.{eqb}
 use lib.ListN.{getD}
 use Rattle.grid.specs.declared.layer.Size.{Size}
@@ -22,6 +22,10 @@ stride size = (size .width + 7) / 8
 abbrev pub rowByte : Layer → ℕ → ℕ → ℕ
 rowByte L j r = getD (L .bitmap) (r * stride (L .size) + j) 0
 
+-- where the last byte of row r stands
+abbrev pub rowEnd : Size → ℕ → ℕ
+rowEnd size r = r * stride size + (stride size - 1)
+
 -- bit k of a number, the least significant being bit 0
 unfoldable pub bit : ℕ → ℕ → Bool
 bit x k = eqb (x / 2 ^ k % 2) 1
@@ -30,3 +34,10 @@ bit x k = eqb (x / 2 ^ k % 2) 1
 -- r below H alone.
 unfoldable pub sample : Layer → ℕ → ℕ → Bool
 sample L c r = bit (rowByte L (c / 8) r) (c % 8)
+
+-- the samples of a row, and of the layer row by row
+abbrev pub sampleIn : Layer → ℕ → ℕ → Bool
+sampleIn L r c = sample L c r
+
+abbrev pub sampleAt : Layer → ℕ → Bool
+sampleAt L k = sample L (k % L .size .width) (k / L .size .width)

@@ -74,11 +74,15 @@ spareAnswer L = askEach Refusal.SpareBits (spareSet L) (length (L .bitmap))
 abbrev pub onBorder : Layer → ℕ → ℕ → Bool
 onBorder L c r = eqb c 0 || eqb c (L .size .width - 1) || eqb r 0 || eqb r (L .size .height - 1)
 
-abbrev pub borderInside : Layer → ℕ → ℕ → Bool
-borderInside L c r = onBorder L c r && sample L c r
+-- a border sample of a row that is inside, and of the layer row by row
+abbrev pub borderIn : Layer → ℕ → ℕ → Bool
+borderIn L r c = onBorder L c r && sample L c r
+
+abbrev pub borderAt : Layer → ℕ → Bool
+borderAt L k = borderIn L (k / L .size .width) (k % L .size .width)
 
 unfoldable pub borderAnswer : Layer → Answer
-borderAnswer L = askEach Refusal.BorderInside (λ k. borderInside L (k % L .size .width) (k / L .size .width)) (L .size .height * L .size .width)
+borderAnswer L = askEach Refusal.BorderInside (borderAt L) (L .size .height * L .size .width)
 
 -- questions 1 to 4, which every call is asked first
 abbrev pub layerQuestions : Layer → List Answer
@@ -100,4 +104,4 @@ pub record Whole (L : Layer) : Type 0 where
 pub record Sound (L : Layer) : Type 0 where
   pub whole : Whole L
   pub spare : (i : ℕ) → i < length (L .bitmap) → spareSet L i ≡ false
-  pub border : (c r : ℕ) → c < L .size .width → r < L .size .height → borderInside L c r ≡ false
+  pub border : (c r : ℕ) → c < L .size .width → r < L .size .height → borderIn L r c ≡ false

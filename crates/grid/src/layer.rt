@@ -17,7 +17,7 @@ pub fn stride_of(size: Size) -> usize
     (size.width + 7) / 8
 }
 
-fn widen(x: u8) -> usize
+pub fn widen(x: u8) -> usize
     ensures { λ r. ⌜ r ≡ x ⌝ }
 {
     x as usize

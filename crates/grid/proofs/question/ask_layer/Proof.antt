@@ -1,0 +1,95 @@
+-- `ask_layer` meets its contract.
+use mathlib.Core.Path.{_≡_, sym, _∙_}
+use mathlib.Core.List.{[], _∷_}
+use borrow.Author.Needs.{needs}
+use Rattle.grid.specs.Layer.{Layer, layerOf}
+use Rattle.grid.specs.Questions.{sidesAnswer, lengthAnswer, spareAnswer, borderAnswer, Sized, Whole}
+use Rattle.grid.proofs.Answers.{first-no, first-yes, first-only, sized-of, whole-of}
+use Rattle.grid.proofs.question.ask_layer.Statement.{statement}
+use Rattle.grid.proofs.question.ask_layer.Tie as tie
+
+ask-sides-requires : tie.Need-ask-sides-requires
+ask-sides-requires c κs = search needs
+
+enum-told : tie.Need-enum-told
+enum-told c = search needs
+
+enum-told-2 : tie.Need-enum-told-2
+enum-told-2 c = search needs
+
+returns : tie.Need-returns
+returns c =
+    let a = c .before .before .before .before .args in
+    let L = layerOf (a .size) (a .bitmap .now) in
+    first-no (lengthAnswer L ∷ spareAnswer L ∷ borderAnswer L ∷ []) (c .before .before .ask-sides .ensures) (c .enum-told2 .given .1)
+
+ask-length-requires : tie.Need-ask-length-requires
+ask-length-requires c κs = sized-of (c .before .before .before .before .args .size) (sym (c .before .before .ask-sides .ensures) ∙ c .enum-told .given .1)
+
+enum-told-3 : tie.Need-enum-told-3
+enum-told-3 c = search needs
+
+enum-told-4 : tie.Need-enum-told-4
+enum-told-4 c = search needs
+
+returns-2 : tie.Need-returns-2
+returns-2 c =
+    let a = c .before .before .before .before .before .before .before .args in
+    let L = layerOf (a .size) (a .bitmap .now) in
+    first-no (spareAnswer L ∷ borderAnswer L ∷ []) (c .before .before .ask-length .ensures) (c .enum-told4 .given .1)
+    ∙ first-yes (lengthAnswer L ∷ spareAnswer L ∷ borderAnswer L ∷ []) (c .before .before .before .before .before .ask-sides .ensures) (c .before .before .before .enum-told .given .1)
+
+ask-spare-requires : tie.Need-ask-spare-requires
+ask-spare-requires c κs =
+    whole-of (layerOf (c .before .before .before .before .before .before .before .args .size) (c .before .before .before .before .before .before .before .args .bitmap .now))
+    (sized-of (c .before .before .before .before .before .before .before .args .size) (sym (c .before .before .before .before .before .ask-sides .ensures) ∙ c .before .before .before .enum-told .given .1))
+    (sym (c .before .before .ask-length .ensures) ∙ c .enum-told3 .given .1)
+
+enum-told-5 : tie.Need-enum-told-5
+enum-told-5 c = search needs
+
+enum-told-6 : tie.Need-enum-told-6
+enum-told-6 c = search needs
+
+returns-3 : tie.Need-returns-3
+returns-3 c =
+    let a = c .before .before .before .before .before .before .before .before .before .before .args in
+    let L = layerOf (a .size) (a .bitmap .now) in
+    first-no (borderAnswer L ∷ []) (c .before .before .ask-spare .ensures) (c .enum-told6 .given .1)
+    ∙ first-yes (spareAnswer L ∷ borderAnswer L ∷ []) (c .before .before .before .before .before .ask-length .ensures) (c .before .before .before .enum-told3 .given .1)
+    ∙ first-yes (lengthAnswer L ∷ spareAnswer L ∷ borderAnswer L ∷ []) (c .before .before .before .before .before .before .before .before .ask-sides .ensures) (c .before .before .before .before .before .before .enum-told .given .1)
+
+ask-border-requires : tie.Need-ask-border-requires
+ask-border-requires c κs =
+    whole-of (layerOf (c .before .before .before .before .before .before .before .before .before .before .args .size) (c .before .before .before .before .before .before .before .before .before .before .args .bitmap .now))
+    (sized-of (c .before .before .before .before .before .before .before .before .before .before .args .size) (sym (c .before .before .before .before .before .before .before .before .ask-sides .ensures) ∙ c .before .before .before .before .before .before .enum-told .given .1))
+    (sym (c .before .before .before .before .before .ask-length .ensures) ∙ c .before .before .before .enum-told3 .given .1)
+
+returns-4 : tie.Need-returns-4
+returns-4 c =
+    let a = c .before .before .before .before .before .before .before .before .before .before .before .args in
+    let L = layerOf (a .size) (a .bitmap .now) in
+    c .ask-border .ensures
+    ∙ first-only (borderAnswer L)
+    ∙ first-yes (borderAnswer L ∷ []) (c .before .before .before .ask-spare .ensures) (c .before .enum-told5 .given .1)
+    ∙ first-yes (spareAnswer L ∷ borderAnswer L ∷ []) (c .before .before .before .before .before .before .ask-length .ensures) (c .before .before .before .before .enum-told3 .given .1)
+    ∙ first-yes (lengthAnswer L ∷ spareAnswer L ∷ borderAnswer L ∷ []) (c .before .before .before .before .before .before .before .before .before .ask-sides .ensures) (c .before .before .before .before .before .before .before .enum-told .given .1)
+
+pub ask-layer-spec : {M : Type 1} → statement M
+ask-layer-spec =
+    tie.close
+    (tie.spec
+    ask-sides-requires
+    enum-told
+    enum-told-2
+    returns
+    ask-length-requires
+    enum-told-3
+    enum-told-4
+    returns-2
+    ask-spare-requires
+    enum-told-5
+    enum-told-6
+    returns-3
+    ask-border-requires
+    returns-4)

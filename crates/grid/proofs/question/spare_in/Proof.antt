@@ -1,0 +1,50 @@
+-- `spare_in` meets its contract.
+use mathlib.Core.Path.{_≡_, sym, ap}
+use Prim.Native.Nat.{ℕ, _-_, _<_}
+use native.Mathlib.Omega.{arith}
+use borrow.Author.Needs.{needs}
+use lib.Arith.{digits-mod}
+use Rattle.grid.specs.Layer.{stride}
+use Rattle.grid.proofs.Samples.{last-byte}
+use Rattle.grid.proofs.question.spare_in.Statement.{statement}
+use Rattle.grid.proofs.question.spare_in.Tie as tie
+
+stride-of-requires : tie.Need-stride-of-requires
+stride-of-requires c κs = search needs
+
+sub-last : tie.Need-sub-last
+sub-last c = search needs
+
+mul-used : tie.Need-mul-used
+mul-used c = search needs
+
+sub-used : tie.Need-sub-used
+sub-used c = search needs
+
+row-byte-requires : tie.Need-row-byte-requires
+row-byte-requires c κs = search needs
+
+widen-requires : tie.Need-widen-requires
+widen-requires c κs = search needs
+
+shr-result : tie.Need-shr-result
+shr-result c = search needs
+
+returns : tie.Need-returns
+returns c =
+    let size = c .before .before .before .before .before .args .size in
+    let within : stride size - 1 < stride size = omega (arith, last-byte size (c .before .before .before .before .before .pre .0 .sized)) in
+    rw (c .widen .ensures, c .before .row-byte .ensures, c .before .before .before .stride-of .ensures, digits-mod (c .before .before .before .before .before .args .row) within)
+
+pub spare-in-spec : {M : Type 1} → statement M
+spare-in-spec =
+    tie.close
+    (tie.spec
+    stride-of-requires
+    sub-last
+    mul-used
+    sub-used
+    row-byte-requires
+    widen-requires
+    shr-result
+    returns)
