@@ -1,9 +1,7 @@
-// Slow checks that share no geometry with the calls: points as X, Y and D,
-// segments point by point, contours by flood filling.
+// Slow checks of drawn edges that share no geometry with the calls: points as X,
+// Y and D, and what two segments have in common.
 
 use crate::chord::Point;
-use crate::contour::inside_on_left;
-use crate::hold::{drawn_edges, vertex_of, Drawn};
 use crate::layer::Layer;
 
 /// "A point is X, Y and a D above 0, standing for X/D and Y/D in 1/256 of the
@@ -83,17 +81,62 @@ pub fn crosses_once(layer: &Layer, a: Point, b: Point, stick: usize) -> bool {
     }
 }
 
-fn ends(layer: &Layer, table: &[u16], drawn: &Drawn) -> [Point; 2] {
+/// Where the vertex of a stick lies: at its offset, in 1/256 of the way from one
+/// sample to the other.
+fn vertex(layer: &Layer, table: &[u16], stick: usize) -> Point {
+    let [a, b] = samples(layer, stick);
+    let offset = table[stick] as i128 & 255;
+    let x = a.x + (b.x - a.x) / 256 * offset;
+    let y = a.y + (b.y - a.y) / 256 * offset;
+    Point { x, y }
+}
+
+/// A drawn edge: the sticks of its two kept vertices and the removed ones between.
+pub struct Stroke {
+    from: usize,
+    to: usize,
+    between: Vec<usize>,
+}
+
+/// The drawn edges of a contour: twice around it, vertex by vertex, from the
+/// first kept one until that one comes again.
+pub fn strokes(contour: &[usize], table: &[u16]) -> Vec<Stroke> {
+    let kept = |stick: usize| table[stick] < 256;
+    let twice = contour.iter().chain(contour).copied();
+    let mut strokes = Vec::new();
+    let mut open: Option<Stroke> = None;
+    for stick in twice.skip_while(|&stick| !kept(stick)) {
+        match open.as_mut() {
+            Some(stroke) if !kept(stick) => stroke.between.push(stick),
+            Some(stroke) => stroke.to = stick,
+            None => (),
+        }
+        if kept(stick) {
+            let (from, between) = (stick, Vec::new());
+            let to = stick;
+            strokes.extend(open.replace(Stroke { from, to, between }));
+            if strokes
+                .first()
+                .map_or(false, |first: &Stroke| first.from == stick)
+            {
+                break;
+            }
+        }
+    }
+    strokes
+}
+
+fn ends(layer: &Layer, table: &[u16], stroke: &Stroke) -> [Point; 2] {
     [
-        vertex_of(layer, table, drawn.from),
-        vertex_of(layer, table, drawn.to),
+        vertex(layer, table, stroke.from),
+        vertex(layer, table, stroke.to),
     ]
 }
 
 /// "A layer is held if each contour has three kept vertices or more and each
 /// drawn edge crosses every removed stick between its ends."
 pub fn contour_is_held(layer: &Layer, contour: &[usize], table: &[u16]) -> bool {
-    let drawn = drawn_edges(contour, table);
+    let drawn = strokes(contour, table);
     let kept = contour
         .iter()
         .filter(|&&stick| (1..256).contains(&table[stick]))
@@ -109,7 +152,7 @@ pub fn contour_is_held(layer: &Layer, contour: &[usize], table: &[u16]) -> bool 
 
 /// The least whole T that the sticks between the ends of a drawn edge need, from
 /// their vertices to where the edge meets them; nothing if it misses one.
-fn least_tolerance(layer: &Layer, table: &[u16], drawn: &Drawn) -> Option<i128> {
+fn least_tolerance(layer: &Layer, table: &[u16], drawn: &Stroke) -> Option<i128> {
     let [a, b] = ends(layer, table, drawn);
     let mut least = 0;
     for &stick in &drawn.between {
@@ -117,7 +160,7 @@ fn least_tolerance(layer: &Layer, table: &[u16], drawn: &Drawn) -> Option<i128> 
         if !crosses_once(layer, a, b, stick) {
             return None;
         }
-        let (p, v) = (common(a, b, c, d)[0], vertex_of(layer, table, stick));
+        let (p, v) = (common(a, b, c, d)[0], vertex(layer, table, stick));
         let slide = (p.x - v.x * p.d).abs() + (p.y - v.y * p.d).abs();
         least = least.max((slide + p.d - 1) / p.d);
     }
@@ -132,7 +175,7 @@ pub fn edit_tolerance(
     table: &[u16],
     stick: usize,
 ) -> Option<i128> {
-    let drawn = drawn_edges(contour, table);
+    let drawn = strokes(contour, table);
     let mut redrawn = drawn
         .iter()
         .filter(|edge| edge.from == stick || edge.to == stick || edge.between.contains(&stick));
@@ -151,7 +194,7 @@ pub fn simplify(layer: &Layer, contour: &[usize], table: &mut [u16], t: u8) -> u
         tried += 1;
         let between: Vec<usize> = (start + 1..end).map(|i| contour[i]).collect();
         let (from, to) = (contour[start], contour[end % n]);
-        let run = Drawn { from, to, between };
+        let run = Stroke { from, to, between };
         match least_tolerance(layer, table, &run) {
             Some(least) if least <= t as i128 => {
                 for stick in run.between {
@@ -170,7 +213,7 @@ pub fn simplify(layer: &Layer, contour: &[usize], table: &mut [u16], t: u8) -> u
 /// Contours pass between two adjacent samples once where they differ and never
 /// where they agree: counting "different such points on both a drawn edge and the
 /// segment from one sample to the other".
-pub fn passes_once_between(layer: &Layer, drawn: &[Drawn], table: &[u16]) -> bool {
+pub fn passes_once_between(layer: &Layer, drawn: &[Stroke], table: &[u16]) -> bool {
     (0..layer.edge_count()).all(|number| {
         let [c, d] = samples(layer, number);
         let mut points: Vec<Spot> = Vec::new();
@@ -189,7 +232,7 @@ pub fn passes_once_between(layer: &Layer, drawn: &[Drawn], table: &[u16]) -> boo
 /// Drawn edges that are not neighbours share no point; "two drawn edges are
 /// neighbours if one ends at the kept vertex where the other begins", and these
 /// share that one point only.
-pub fn meet_at_vertices_only(layer: &Layer, drawn: &[Drawn], table: &[u16]) -> bool {
+pub fn meet_at_vertices_only(layer: &Layer, drawn: &[Stroke], table: &[u16]) -> bool {
     (0..drawn.len()).all(|i| {
         (0..i).all(|j| {
             let [a, b] = ends(layer, table, &drawn[i]);
@@ -198,107 +241,4 @@ pub fn meet_at_vertices_only(layer: &Layer, drawn: &[Drawn], table: &[u16]) -> b
             common(a, b, c, d).len() == neighbours as usize
         })
     })
-}
-
-/// The connected parts of the samples that are (or are not) inside: over the four
-/// sides, or over the corners too.
-fn parts(layer: &Layer, inside: bool, corners: bool) -> usize {
-    let mut seen = vec![false; layer.w * layer.h];
-    let mut parts = 0;
-    for start in 0..seen.len() {
-        if seen[start] || layer.sample(start % layer.w, start / layer.w) != inside {
-            continue;
-        }
-        parts += 1;
-        let mut open = vec![start];
-        seen[start] = true;
-        while let Some(at) = open.pop() {
-            for near in neighbours(layer, at, corners) {
-                if !seen[near] && layer.sample(near % layer.w, near / layer.w) == inside {
-                    seen[near] = true;
-                    open.push(near);
-                }
-            }
-        }
-    }
-    parts
-}
-
-fn neighbours(layer: &Layer, at: usize, corners: bool) -> Vec<usize> {
-    let (c, r) = ((at % layer.w) as i64, (at / layer.w) as i64);
-    let mut found = Vec::new();
-    for dr in -1..=1 {
-        for dc in -1..=1 {
-            let far = dc != 0 && dr != 0;
-            let (x, y) = (c + dc, r + dr);
-            let on_grid = x >= 0 && y >= 0 && x < layer.w as i64 && y < layer.h as i64;
-            if on_grid && (corners || !far) && (dc, dr) != (0, 0) {
-                found.push(y as usize * layer.w + x as usize);
-            }
-        }
-    }
-    found
-}
-
-/// How many contours there are: since diagonal inside samples are not linked, one
-/// around each inside part (over sides) and one around each outside part (over
-/// corners) but the outermost.
-pub fn contour_count(layer: &Layer) -> usize {
-    parts(layer, true, false) + parts(layer, false, true) - 1
-}
-
-/// Inside samples and sticks, counted over the samples.
-pub fn inside_and_sticks(layer: &Layer) -> (usize, usize) {
-    let (mut inside, mut sticks) = (0, 0);
-    for r in 0..layer.h {
-        for c in 0..layer.w {
-            let sample = layer.sample(c, r);
-            inside += sample as usize;
-            sticks += (c + 1 < layer.w && layer.sample(c + 1, r) != sample) as usize;
-            sticks += (r + 1 < layer.h && layer.sample(c, r + 1) != sample) as usize;
-        }
-    }
-    (inside, sticks)
-}
-
-/// Do two sticks bound a common square, and have they their inside sample in
-/// common if its two inside samples lie on a diagonal?
-fn linked(layer: &Layer, one: usize, other: usize) -> bool {
-    let [a, b] = layer.edge(one).ends();
-    let [c, d] = layer.edge(other).ends();
-    let corners = [a, b, c, d];
-    let columns = corners.iter().map(|corner| corner.0);
-    let rows = corners.iter().map(|corner| corner.1);
-    let (left, right) = (columns.clone().min().unwrap(), columns.max().unwrap());
-    let (bottom, top) = (rows.clone().min().unwrap(), rows.max().unwrap());
-    if right - left != 1 || top - bottom != 1 {
-        return false;
-    }
-    let sample = |c, r| layer.sample(c, r);
-    let diagonal = sample(left, bottom) == sample(right, top)
-        && sample(right, bottom) == sample(left, top)
-        && sample(left, bottom) != sample(right, bottom);
-    let shared = [a, b].iter().copied().find(|&end| end == c || end == d);
-    !diagonal || shared.map_or(false, |(c, r)| sample(c, r))
-}
-
-/// Each stick stands once in one contour; contours start at their lowest number
-/// and are ordered by it; sticks that follow each other are linked, inside on the
-/// left.
-pub fn contours_are_right(layer: &Layer, contours: &[Vec<usize>]) -> bool {
-    let mut all: Vec<usize> = contours.concat();
-    all.sort_unstable();
-    let sticks: Vec<usize> = (0..layer.edge_count())
-        .filter(|&n| layer.is_stick(n))
-        .collect();
-    let firsts: Vec<usize> = contours.iter().map(|contour| contour[0]).collect();
-    let walks = contours.iter().all(|contour| {
-        let n = contour.len();
-        contour.iter().min() == contour.first()
-            && (0..n).all(|i| {
-                let (one, other) = (contour[i], contour[(i + 1) % n]);
-                linked(layer, one, other) && inside_on_left(layer, one, other)
-            })
-    });
-    all == sticks && walks && firsts.windows(2).all(|pair| pair[0] < pair[1])
 }

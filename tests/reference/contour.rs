@@ -63,7 +63,7 @@ fn links(layer: &Layer) -> Vec<Vec<usize>> {
 
 /// "A contour is walked with inside on its left": does the inside end of the
 /// stick `from` lie left of the way from its middle to the middle of `to`?
-pub fn inside_on_left(layer: &Layer, from: usize, to: usize) -> bool {
+fn inside_on_left(layer: &Layer, from: usize, to: usize) -> bool {
     let middle = |edge: Edge| {
         let [(c, r), (c2, r2)] = edge.ends();
         ((c + c2) as i64, (r + r2) as i64)

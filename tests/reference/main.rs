@@ -7,6 +7,7 @@ mod builder;
 mod cases;
 mod chord;
 mod contour;
+mod flood;
 mod hold;
 mod layer;
 mod machine;

@@ -1,4 +1,5 @@
-// Scripts: the commands of a script, and their bytes. Numbers are little-endian.
+// Scripts: the commands of a script, their bytes (numbers are little-endian), and
+// how a script is taken apart.
 
 /// The longest bitmap and table that a script may set, and the longest output
 /// (in bytes, items or floats) that it may lend.

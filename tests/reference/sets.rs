@@ -1,4 +1,5 @@
-// The sets of vectors: their names, their seeds, and what fills each.
+// The sets of vectors: their names, their seeds, and what fills each. A further
+// set is one more line and a function.
 
 use crate::builder::Builder;
 use crate::sets_bitmap;

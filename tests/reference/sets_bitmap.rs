@@ -1,4 +1,5 @@
-// The sets of the calls that go by the bitmap: Trace, Counts and the layer view.
+// The sets of the calls that go by the bitmap alone: Trace, Counts and the layer
+// view.
 
 use crate::builder::{exact_length, Builder};
 use crate::layer::Layer;

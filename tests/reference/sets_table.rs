@@ -1,4 +1,5 @@
-// The sets of the calls that change vertices: Smooth, Simplify and Roll.
+// The sets of the calls that change vertices: Smooth, Simplify and Roll, each on
+// tables as traced, with other offsets, and damaged.
 
 use crate::builder::{edit_bytes, Builder};
 use crate::hold::{is_kept, is_removed};

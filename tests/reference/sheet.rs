@@ -1,4 +1,5 @@
-// Sheets: writing the sheet of a held layer, and reading one against a bitmap.
+// Sheets: writing the sheet of a held layer, and reading one against a bitmap,
+// command by command.
 
 use crate::contour::contours;
 use crate::hold::{ask_1_to_7, ask_held, is_kept, offset};

@@ -1,4 +1,5 @@
-// A script in words and pictures, for a person.
+// A script for a person: its commands in words, its layers as pictures, other
+// bytes in hex.
 
 use crate::layer::{bitmap_sample, row_bytes};
 use crate::roll::{edits, Action};

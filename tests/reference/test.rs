@@ -1,12 +1,13 @@
 // The reference's own test: document 01's cases, random layers and calls against
 // slow checks, and the sets of vectors.
 
-use crate::brute;
+use crate::brute::{self, Stroke};
 use crate::builder::Builder;
 use crate::cases::{self, call, traced};
 use crate::chord::{crosses, meets, vertex, Fraction, Point};
 use crate::contour::contours;
-use crate::hold::{contour_is_held, drawn_edges, is_kept, is_removed, Drawn};
+use crate::flood;
+use crate::hold::{contour_is_held, is_kept, is_removed};
 use crate::layer::Layer;
 use crate::machine::{answers, Machine};
 use crate::picture;
@@ -85,14 +86,14 @@ fn counting(wrong: &mut Wrong, rng: &mut Rng) {
     for _ in 0..120 {
         let layer = picture::any(rng, 14);
         let walks = contours(&layer);
-        expect(wrong, brute::contours_are_right(&layer, &walks), || {
+        expect(wrong, flood::contours_are_right(&layer, &walks), || {
             format!("contours of {:?}", layer)
         });
-        let (inside, sticks) = brute::inside_and_sticks(&layer);
+        let (inside, sticks) = flood::inside_and_sticks(&layer);
         let wanted = vec![
             inside as u64,
             sticks as u64,
-            brute::contour_count(&layer) as u64,
+            flood::contour_count(&layer) as u64,
         ];
         let found = call(&mut traced(&layer), Command::Counts).figures;
         expect(wrong, wanted == found, || {
@@ -105,9 +106,9 @@ fn counting(wrong: &mut Wrong, rng: &mut Rng) {
 /// and by those of the calls.
 fn faithful(layer: &Layer, table: &[u16]) -> bool {
     let walks = contours(layer);
-    let drawn: Vec<Drawn> = walks
+    let drawn: Vec<Stroke> = walks
         .iter()
-        .flat_map(|walk| drawn_edges(walk, table))
+        .flat_map(|walk| brute::strokes(walk, table))
         .collect();
     let entries = (0..table.len()).all(|n| match layer.is_stick(n) {
         true => is_kept(table[n]) || is_removed(table[n]),
@@ -183,8 +184,8 @@ fn edits(wrong: &mut Wrong, b: &mut Builder, layer: &Layer) {
 /// over another table.
 fn sheet_and_back(wrong: &mut Wrong, b: &Builder, layer: &Layer) {
     let sheet = b.sheet();
-    let (_, sticks) = brute::inside_and_sticks(layer);
-    let length = 6 + 6 * brute::contour_count(layer) + 2 * sticks;
+    let (_, sticks) = flood::inside_and_sticks(layer);
+    let length = 6 + 6 * flood::contour_count(layer) + 2 * sticks;
     let mut other = b.machine.clone();
     other.table = vec![999; other.table.len()];
     let answer = call(
@@ -205,7 +206,7 @@ fn listed(wrong: &mut Wrong, machine: &Machine, layer: &Layer) {
         .iter()
         .filter(|&&entry| is_kept(entry))
         .count();
-    let walks = brute::contour_count(layer);
+    let walks = flood::contour_count(layer);
     let mut items = vec![0; kept + walks];
     let mut floats = vec![-1.0; 2 * kept];
     let (w, h, bitmap, table) = (machine.w, machine.h, &machine.bitmap, &machine.table);

@@ -5,3 +5,4 @@ pub mod Numbers
 pub mod Links
 pub mod Walks
 pub mod Answers
+pub mod Masks

@@ -32,6 +32,10 @@ module _ (size : Size) (sized : Sized size) where
   columns-pos true = omega (arith, sized)
   columns-pos false = omega (arith, sized)
 
+  pub row-below-height : (v : Bool) (r : ℕ) → r < edgeRows size v → r < size .height
+  row-below-height true r h = omega arith
+  row-below-height false r h = h
+
   -- the kinds' numbers fill what is below `edges`, one after the other
   pub edges-split : edgeCount size ≡ kindStart size true + edgeRows size true * edgeColumns size true
   unfolding edgeCount

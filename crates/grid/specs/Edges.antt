@@ -1,8 +1,9 @@
 -- Grid edges, their numbers, and which of them are sticks. `vertical` of an edge says its kind: false is kind 0, true is kind 1.
+use mathlib.Core.Path.{_≡_}
 use mathlib.Core.Bool.{Bool, true, false, cond, xor, _&&_}
-use Prim.Native.Nat.{ℕ, _+_, _-_, _*_, _/_, _%_}
+use Prim.Native.Nat.{ℕ, _+_, _-_, _*_, _/_, _%_, _<_}
 use lib.Dec.{ltb}
-use Rattle.grid.specs.Layer.{Layer, sample}
+use Rattle.grid.specs.Layer.{Layer, sample, bit}
 use Rattle.grid.specs.declared.layer.Size.{Size}
 use Rattle.grid.specs.declared.edge.Edge.{Edge}
 
@@ -48,3 +49,7 @@ secondEnd L e = cond (e .vertical) (sample L (e .column) (e .row + 1)) (sample L
 -- "An edge whose samples differ is a stick"
 unfoldable pub isStick : Layer → Edge → Bool
 isStick L e = inGrid (L .size) e && xor (firstEnd L e) (secondEnd L e)
+
+-- x has a one for each stick among the eight edges of a row from column 8 × at on
+pub record Marks (L : Layer) (vertical : Bool) (at r x : ℕ) : Type 0 where
+  pub ones : (b : ℕ) → b < 8 → bit x b ≡ isStick L (record { vertical = vertical; column = 8 * at + b; row = r })

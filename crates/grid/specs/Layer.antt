@@ -1,8 +1,8 @@
 -- A layer: its two sides, its bitmap, and the samples that the bitmap holds.
-use mathlib.Core.Bool.{Bool}
+use mathlib.Core.Bool.{Bool, _&&_}
 use mathlib.Core.List.{List}
 use Prim.Native.Nat.{ℕ, _+_, _-_, _*_, _/_, _%_, _^_}
-use lib.Dec.{eqb}
+use lib.Dec.{eqb, ltb}
 use lib.ListN.{getD}
 use Rattle.grid.specs.declared.layer.Size.{Size}
 
@@ -41,3 +41,7 @@ sampleIn L r c = sample L c r
 
 abbrev pub sampleAt : Layer → ℕ → Bool
 sampleAt L k = sample L (k % L .size .width) (k / L .size .width)
+
+-- the sample after column c in its row, where the row's bytes reach so far
+abbrev pub follows : Layer → ℕ → ℕ → Bool
+follows L c r = ltb (c + 1) (8 * stride (L .size)) && sample L (c + 1) r

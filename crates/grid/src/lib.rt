@@ -2,6 +2,7 @@
 mod cell;
 mod edge;
 mod layer;
+mod mask;
 mod question;
 mod walk;
 
@@ -15,8 +16,11 @@ pub use edge::number_of;
 pub use layer::Size;
 pub use layer::is_inside;
 pub use layer::stride_of;
+pub use mask::stick_byte;
 pub use question::Answer;
 pub use question::Refusal;
+pub use question::ask_layer;
+pub use question::refusal_number;
 pub use walk::is_upward;
 pub use walk::next_stick;
 pub use walk::previous_stick;
