@@ -112,9 +112,12 @@ pub fn strokes(contour: &[usize], table: &[u16]) -> Vec<Stroke> {
             None => (),
         }
         if kept(stick) {
-            let (from, between) = (stick, Vec::new());
-            let to = stick;
-            strokes.extend(open.replace(Stroke { from, to, between }));
+            let next = Stroke {
+                from: stick,
+                to: stick,
+                between: Vec::new(),
+            };
+            strokes.extend(open.replace(next));
             if strokes
                 .first()
                 .map_or(false, |first: &Stroke| first.from == stick)

@@ -70,6 +70,10 @@ getD-tabulate f n k d h = getD-tabulateFrom f 0 n k d h ∙ ap f (zero-add k)
 
 -- Counting
 
+pub count-zero : (f : ℕ → Bool) → 0 ≡ count f 0
+unfolding count
+count-zero f = refl
+
 pub count-add : (f : ℕ → Bool) (n m : ℕ) → count f (n + m) ≡ count f n + count (λ k. f (n + k)) m
 unfolding count
 count-add f n zero = rw (add-zero, add-zero)

@@ -6,3 +6,4 @@ pub mod Links
 pub mod Walks
 pub mod Answers
 pub mod Masks
+pub mod Ones

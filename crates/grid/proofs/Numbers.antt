@@ -32,6 +32,10 @@ module _ (size : Size) (sized : Sized size) where
   columns-pos true = omega (arith, sized)
   columns-pos false = omega (arith, sized)
 
+  pub columns-narrow : (v : Bool) → edgeColumns size v ≤ 1024
+  columns-narrow true = omega (arith, sized)
+  columns-narrow false = omega (arith, sized)
+
   pub row-below-height : (v : Bool) (r : ℕ) → r < edgeRows size v → r < size .height
   row-below-height true r h = omega arith
   row-below-height false r h = h

@@ -2,7 +2,7 @@
 use Prim.Native.Nat.{ℕ, _*_}
 use Rattle.arith.specs.Ranges.{count}
 use Rattle.grid.specs.Layer.{Layer, sampleAt}
-use Rattle.grid.specs.Edges.{edgeCount, edgeAt, isStick}
+use Rattle.grid.specs.Edges.{edgeCount, stickAt}
 
 -- "the inside samples"
 abbrev pub insideCount : Layer → ℕ
@@ -10,4 +10,4 @@ insideCount L = count (sampleAt L) (L .size .height * L .size .width)
 
 -- "and the sticks"
 abbrev pub stickCount : Layer → ℕ
-stickCount L = count (λ k. isStick L (edgeAt (L .size) k)) (edgeCount (L .size))
+stickCount L = count (stickAt L) (edgeCount (L .size))

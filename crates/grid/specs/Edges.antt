@@ -50,6 +50,16 @@ secondEnd L e = cond (e .vertical) (sample L (e .column) (e .row + 1)) (sample L
 unfoldable pub isStick : Layer → Edge → Bool
 isStick L e = inGrid (L .size) e && xor (firstEnd L e) (secondEnd L e)
 
+-- the sticks of a kind in a row, of a kind row by row, and of the layer by number
+abbrev pub stickIn : Layer → Bool → ℕ → ℕ → Bool
+stickIn L vertical r c = isStick L (record { vertical = vertical; column = c; row = r })
+
+abbrev pub stickOf : Layer → Bool → ℕ → Bool
+stickOf L vertical k = isStick L (edgeIn (L .size) vertical k)
+
+abbrev pub stickAt : Layer → ℕ → Bool
+stickAt L k = isStick L (edgeAt (L .size) k)
+
 -- x has a one for each stick among the eight edges of a row from column 8 × at on
 pub record Marks (L : Layer) (vertical : Bool) (at r x : ℕ) : Type 0 where
-  pub ones : (b : ℕ) → b < 8 → bit x b ≡ isStick L (record { vertical = vertical; column = 8 * at + b; row = r })
+  pub ones : (b : ℕ) → b < 8 → bit x b ≡ stickIn L vertical r (8 * at + b)

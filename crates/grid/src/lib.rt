@@ -1,11 +1,14 @@
 // A layer's samples and grid edges, the sticks among them, and the step from a stick to the next on its contour; questions 1 to 4.
 mod cell;
+mod count;
 mod edge;
 mod layer;
 mod mask;
 mod question;
 mod walk;
 
+pub use count::inside_count;
+pub use count::stick_count;
 pub use edge::Edge;
 pub use edge::edge_at;
 pub use edge::edge_columns;

@@ -1,0 +1,69 @@
+-- `inside_count` meets its contract. The invariant: the total is that of the rows passed.
+use mathlib.Core.Path.{_≡_, ap, ap₂, sym, _∙_}
+use Prim.Native.Nat.{ℕ, _+_, _-_, _*_, _≤_, _<_}
+use native.Mathlib.Omega.{arith}
+use native.Mathlib.Nat.{zero-mul, mul-le-mul}
+use borrow.Author.Needs.{needs}
+use Rattle.arith.specs.Ranges.{count, count-zero, count-le}
+use Rattle.grid.specs.Layer.{layerOf, sampleIn, sampleAt}
+use Rattle.grid.proofs.Ones.{inside-rows}
+use Rattle.grid.proofs.count.inside_count.Statement.{statement}
+use Rattle.grid.proofs.count.inside_count.Tie as tie
+
+abbrev Inv-loop : tie.InvT-loop
+Inv-loop size bitmap height total₀ row₀ total row = (row ≤ height) × (total ≡ count (sampleAt (layerOf size bitmap)) (row * size .width))
+
+abbrev μ-loop : tie.MeasureT-loop
+μ-loop size bitmap height total₀ row₀ total row = height - row
+
+loop-holds : tie.Need-loop-holds Inv-loop μ-loop
+loop-holds c = (omega arith, rw zero-mul (count-zero _))
+
+inside-in-row-requires : tie.Need-inside-in-row-requires Inv-loop μ-loop
+inside-in-row-requires c κs = search needs
+
+add-total : tie.Need-add-total Inv-loop μ-loop
+add-total c =
+    let a = c .before .before .before .before .args in
+    let L = layerOf (a .size) (a .bitmap .now) in
+    let given = c .before .before .before .before .pre in
+    let sized = given .whole .sized in
+    let e = c .before .before .loop .inv .1 in
+    let f = c .inside-in-row .ensures in
+    let g = mul-le-mul {n₁ = c .before .before .loop .row} {m₁ = a .size .width} {n₂ = 1024} {m₂ = 1024} (omega arith) (omega arith) in
+    omega (arith, count-le (sampleAt L) (c .before .before .loop .row * a .size .width), count-le (sampleIn L (c .before .before .loop .row)) (a .size .width))
+
+add-row : tie.Need-add-row Inv-loop μ-loop
+add-row c = search needs
+
+loop-less : tie.Need-loop-less Inv-loop μ-loop
+loop-less c = search needs
+
+loop-again : tie.Need-loop-again Inv-loop μ-loop
+loop-again c =
+    let a = c .before .before .before .before .args in
+    let L = layerOf (a .size) (a .bitmap .now) in
+    let given = c .before .before .before .before .pre in
+    (omega arith, ap₂ _+_ (c .before .before .loop .inv .1) (c .inside-in-row .ensures) ∙ sym (inside-rows L given (c .before .before .loop .row)))
+
+returns : tie.Need-returns Inv-loop μ-loop
+returns c =
+    let a = c .before .before .before .args in
+    let L = layerOf (a .size) (a .bitmap .now) in
+    let given = c .before .before .before .pre in
+    let whole : c .before .loop .row ≡ a .size .height = let e = c .before .loop .inv .0 in omega arith in
+    c .before .loop .inv .1 ∙ ap (λ (n : ℕ). count (sampleAt L) (n * a .size .width)) whole
+
+pub inside-count-spec : {M : Type 1} → statement M
+inside-count-spec =
+    tie.close
+    (tie.spec
+    Inv-loop
+    μ-loop
+    loop-holds
+    inside-in-row-requires
+    add-total
+    add-row
+    loop-less
+    loop-again
+    returns)

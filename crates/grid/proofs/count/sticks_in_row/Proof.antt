@@ -1,0 +1,77 @@
+-- `sticks_in_row` meets its contract. The invariant: the total is that of the bytes passed.
+use mathlib.Core.Path.{_≡_, ap, ap₂, sym, _∙_}
+use Prim.Native.Nat.{ℕ, _+_, _-_, _*_, _≤_, _<_}
+use native.Mathlib.Omega.{arith}
+use borrow.Author.Needs.{needs}
+use Rattle.arith.specs.Ranges.{count, count-zero, count-le}
+use Rattle.grid.specs.Layer.{layerOf, stride}
+use Rattle.grid.specs.Edges.{stickIn}
+use Rattle.grid.proofs.Ones.{sticks-byte, sticks-row}
+use Rattle.grid.proofs.count.sticks_in_row.Statement.{statement}
+use Rattle.grid.proofs.count.sticks_in_row.Tie as tie
+
+abbrev Inv-loop : tie.InvT-loop
+Inv-loop size bitmap vertical row bytes total₀ at₀ total at = (at ≤ stride size) × (total ≡ count (stickIn (layerOf size bitmap) vertical row) (8 * at))
+
+abbrev μ-loop : tie.MeasureT-loop
+μ-loop size bitmap vertical row bytes total₀ at₀ total at = bytes - at
+
+stride-of-requires : tie.Need-stride-of-requires Inv-loop μ-loop
+stride-of-requires c κs = search needs
+
+loop-holds : tie.Need-loop-holds Inv-loop μ-loop
+loop-holds c = (omega arith, count-zero _)
+
+stick-byte-requires : tie.Need-stick-byte-requires Inv-loop μ-loop
+stick-byte-requires c κs = let e = c .before .before .stride-of .ensures in (c .before .before .before .before .pre .0, (omega arith, c .before .before .before .before .pre .1))
+
+ones-of-requires : tie.Need-ones-of-requires Inv-loop μ-loop
+ones-of-requires c κs = search needs
+
+add-total : tie.Need-add-total Inv-loop μ-loop
+add-total c =
+    let a = c .before .before .before .before .before .before .args in
+    let L = layerOf (a .size) (a .bitmap .now) in
+    let given = c .before .before .before .before .before .before .pre in
+    let e = c .before .before .before .loop .inv .1 in omega (arith, count-le (stickIn L (a .vertical) (a .row)) (8 * c .before .before .before .loop .at), c .ones-of .ensures .1)
+
+add-at : tie.Need-add-at Inv-loop μ-loop
+add-at c = search needs
+
+loop-less : tie.Need-loop-less Inv-loop μ-loop
+loop-less c = search needs
+
+loop-again : tie.Need-loop-again Inv-loop μ-loop
+loop-again c =
+    let a = c .before .before .before .before .before .before .args in
+    let L = layerOf (a .size) (a .bitmap .now) in
+    let given = c .before .before .before .before .before .before .pre in
+    let e = c .before .before .before .before .stride-of .ensures in (
+      omega arith,
+      ap₂ _+_ (c .before .before .before .loop .inv .1) (c .ones-of .ensures .0)
+          ∙ sym (sticks-byte L (given .0) (a .vertical) (c .before .before .before .loop .at) (a .row) (c .before .stick-byte .result) (c .before .stick-byte .ensures)),
+    )
+
+returns : tie.Need-returns Inv-loop μ-loop
+returns c =
+    let a = c .before .before .before .before .args in
+    let L = layerOf (a .size) (a .bitmap .now) in
+    let given = c .before .before .before .before .pre in
+    let whole : c .before .loop .at ≡ stride (a .size) = let e = c .before .before .stride-of .ensures in omega arith in
+    c .before .loop .inv .1 ∙ ap (λ (n : ℕ). count (stickIn L (a .vertical) (a .row)) (8 * n)) whole ∙ sticks-row L (given .0) (a .vertical) (a .row)
+
+pub sticks-in-row-spec : {M : Type 1} → statement M
+sticks-in-row-spec =
+    tie.close
+    (tie.spec
+    Inv-loop
+    μ-loop
+    stride-of-requires
+    loop-holds
+    stick-byte-requires
+    ones-of-requires
+    add-total
+    add-at
+    loop-less
+    loop-again
+    returns)

@@ -1,0 +1,79 @@
+-- `sticks_of_kind` meets its contract. The invariant: the total is that of the rows passed.
+use mathlib.Core.Path.{_≡_, ap, ap₂, sym, _∙_}
+use Prim.Native.Nat.{ℕ, _+_, _-_, _*_, _≤_, _<_}
+use native.Mathlib.Omega.{arith}
+use native.Mathlib.Nat.{zero-mul, mul-le-mul}
+use borrow.Author.Needs.{needs}
+use Rattle.arith.specs.Ranges.{count, count-zero, count-le}
+use Rattle.grid.specs.Layer.{layerOf}
+use Rattle.grid.specs.Edges.{edgeColumns, edgeRows, stickIn, stickOf}
+use Rattle.grid.proofs.Ones.{sticks-rows}
+use Rattle.grid.proofs.Numbers.{columns-narrow, row-below-height}
+use Rattle.grid.proofs.count.sticks_of_kind.Statement.{statement}
+use Rattle.grid.proofs.count.sticks_of_kind.Tie as tie
+
+abbrev Inv-loop : tie.InvT-loop
+Inv-loop size bitmap vertical rows total₀ row₀ total row = (row ≤ edgeRows size vertical) × (total ≡ count (stickOf (layerOf size bitmap) vertical) (row * edgeColumns size vertical))
+
+abbrev μ-loop : tie.MeasureT-loop
+μ-loop size bitmap vertical rows total₀ row₀ total row = rows - row
+
+edge-rows-requires : tie.Need-edge-rows-requires Inv-loop μ-loop
+edge-rows-requires c κs = search needs
+
+loop-holds : tie.Need-loop-holds Inv-loop μ-loop
+loop-holds c = (omega arith, rw zero-mul (count-zero _))
+
+sticks-in-row-requires : tie.Need-sticks-in-row-requires Inv-loop μ-loop
+sticks-in-row-requires c κs = let e = c .before .before .edge-rows .ensures in (c .before .before .before .before .pre, omega arith)
+
+add-total : tie.Need-add-total Inv-loop μ-loop
+add-total c =
+    let a = c .before .before .before .before .before .args in
+    let L = layerOf (a .size) (a .bitmap .now) in
+    let given = c .before .before .before .before .before .pre in
+    let sized = given .whole .sized in
+    let e = c .before .before .loop .inv .1 in
+    let f = c .sticks-in-row .ensures in
+    let n = edgeColumns (a .size) (a .vertical) in
+    let narrow = columns-narrow (a .size) sized (a .vertical) in
+    let g = mul-le-mul {n₁ = c .before .before .loop .row} {m₁ = n} {n₂ = 1024} {m₂ = 1024}
+    (let less = row-below-height (a .size) sized (a .vertical) (c .before .before .loop .row) (let r = c .before .before .before .edge-rows .ensures in omega arith) in omega arith) narrow in
+    omega (arith, count-le (stickOf L (a .vertical)) (c .before .before .loop .row * n), count-le (stickIn L (a .vertical) (c .before .before .loop .row)) n)
+
+add-row : tie.Need-add-row Inv-loop μ-loop
+add-row c = search needs
+
+loop-less : tie.Need-loop-less Inv-loop μ-loop
+loop-less c = search needs
+
+loop-again : tie.Need-loop-again Inv-loop μ-loop
+loop-again c =
+    let a = c .before .before .before .before .before .args in
+    let L = layerOf (a .size) (a .bitmap .now) in
+    let given = c .before .before .before .before .before .pre in
+    let e = c .before .before .before .edge-rows .ensures in
+    (omega arith, ap₂ _+_ (c .before .before .loop .inv .1) (c .sticks-in-row .ensures) ∙ sym (sticks-rows L given (a .vertical) (c .before .before .loop .row)))
+
+returns : tie.Need-returns Inv-loop μ-loop
+returns c =
+    let a = c .before .before .before .before .args in
+    let L = layerOf (a .size) (a .bitmap .now) in
+    let given = c .before .before .before .before .pre in
+    let whole : c .before .loop .row ≡ edgeRows (a .size) (a .vertical) = let e = c .before .before .edge-rows .ensures in let i = c .before .loop .inv .0 in omega arith in
+    c .before .loop .inv .1 ∙ ap (λ (n : ℕ). count (stickOf L (a .vertical)) (n * edgeColumns (a .size) (a .vertical))) whole
+
+pub sticks-of-kind-spec : {M : Type 1} → statement M
+sticks-of-kind-spec =
+    tie.close
+    (tie.spec
+    Inv-loop
+    μ-loop
+    edge-rows-requires
+    loop-holds
+    sticks-in-row-requires
+    add-total
+    add-row
+    loop-less
+    loop-again
+    returns)
