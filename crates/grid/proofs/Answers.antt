@@ -1,7 +1,7 @@
 -- Questions and their answers: how a search for the lowest place answers one, and what a yes says.
 use mathlib.Core.Path.{_≡_, refl, ap, sym, _∙_}
 use mathlib.Core.Bool.{Bool, true, false, cond, _&&_}
-use mathlib.Core.List.{List, [], _∷_}
+use mathlib.Core.List.{List, [], _∷_, _++_}
 use Prim.Native.Nat.{ℕ, _+_, _*_, _/_, _%_, _≤_, _<_}
 use native.Mathlib.Omega.{arith}
 use borrow.Author.Tests.{lt-ltb, le-ltb, leb-true, ltb-false, eqb-true}
@@ -51,6 +51,22 @@ first-yes later e y = ap (λ (b : Answer). firstNo (b ∷ later)) (sym y ∙ e)
 pub first-only : (a : Answer) → a ≡ firstNo (a ∷ [])
 first-only Yes = refl
 first-only (No q p) = refl
+
+-- and of two lists, one after the other
+pub append-no : (xs ys : List Answer) {q : Refusal} {p : ℕ} → firstNo xs ≡ No q p → No q p ≡ firstNo (xs ++ ys)
+append-no [] ys {q} {p} e = absurd (no-not-yes q p (sym e))
+append-no (Yes ∷ xs) ys e = append-no xs ys e
+append-no (No q p ∷ xs) ys e = sym e
+
+pub append-yes : (xs ys : List Answer) → firstNo xs ≡ Yes → firstNo ys ≡ firstNo (xs ++ ys)
+append-yes [] ys e = refl
+append-yes (Yes ∷ xs) ys e = append-yes xs ys e
+append-yes (No q p ∷ xs) ys e = absurd (no-not-yes q p e)
+
+pub append-all : (xs ys : List Answer) → firstNo (xs ++ ys) ≡ Yes → (firstNo xs ≡ Yes) × (firstNo ys ≡ Yes)
+append-all [] ys e = (refl, e)
+append-all (Yes ∷ xs) ys e = append-all xs ys e
+append-all (No q p ∷ xs) ys e = absurd (no-not-yes q p e)
 
 range-of : (n : ℕ) → inRange n ≡ true → (2 ≤ n) × (n ≤ 1024)
 range-of n h =

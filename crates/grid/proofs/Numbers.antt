@@ -9,7 +9,8 @@ use borrow.Author.Tests.{ltb-true, lt-ltb, le-ltb}
 use lib.Arith.{digits-lt, digits-div, digits-mod}
 use lib.Dec.{ltb}
 use Rattle.arith.specs.Booleans.{both-sides, and-split}
-use Rattle.grid.specs.Edges.{edgeColumns, edgeRows, inGrid, kindStart, number, edgeCount, edgeIn, edgeAt}
+use Rattle.grid.specs.Layer.{stride}
+use Rattle.grid.specs.Edges.{edgeColumns, edgeRows, inGrid, kindStart, rowStart, number, edgeCount, edgeIn, edgeAt}
 use Rattle.grid.specs.Questions.{Sized}
 use Rattle.grid.specs.declared.layer.Size.{Size}
 use Rattle.grid.specs.declared.edge.Edge.{Edge}
@@ -36,6 +37,11 @@ module _ (size : Size) (sized : Sized size) where
   columns-narrow true = omega (arith, sized)
   columns-narrow false = omega (arith, sized)
 
+  -- a column that has an edge stands in one of the row's bytes
+  pub column-stride : (v : Bool) (at : ℕ) → 8 * at < edgeColumns size v → at < stride size
+  column-stride true at h = omega arith
+  column-stride false at h = omega arith
+
   pub row-below-height : (v : Bool) (r : ℕ) → r < edgeRows size v → r < size .height
   row-below-height true r h = omega arith
   row-below-height false r h = h
@@ -55,6 +61,22 @@ module _ (size : Size) (sized : Sized size) where
       let p = mul-le-mul {n₁ = size .width - 1} {m₁ = size .height} {n₂ = 1023} {m₂ = 1024} (omega (arith, sized)) (omega (arith, sized)) in
       let q = mul-le-mul {n₁ = size .width} {m₁ = size .height - 1} {n₂ = 1024} {m₂ = 1023} (omega (arith, sized)) (omega (arith, sized)) in
       omega arith
+
+  pub rows-small : (v : Bool) (r : ℕ) → r ≤ edgeRows size v → (r ≤ 1024) × (r * edgeColumns size v ≤ 2095104)
+  rows-small v r h =
+      let m = mul-le-mul {n₁ = r} {m₁ = edgeColumns size v} {n₂ = edgeRows size v} {m₂ = edgeColumns size v} h (omega arith) in
+      (low v h, omega (arith, kind-below v, edges-small))
+    where
+      low : (v : Bool) → r ≤ edgeRows size v → r ≤ 1024
+      low true h = omega (arith, sized)
+      low false h = omega (arith, sized)
+
+  -- a row's numbers
+  pub row-fits : (v : Bool) (r : ℕ) → r < edgeRows size v → rowStart size v r + edgeColumns size v ≤ edgeCount size
+  row-fits v r h =
+      let more : r * edgeColumns size v + edgeColumns size v ≤ edgeRows size v * edgeColumns size v =
+      let m = mul-le-mul {n₁ = r + 1} {m₁ = edgeColumns size v} {n₂ = edgeRows size v} {m₂ = edgeColumns size v} (omega arith) (omega arith) in omega arith in
+      omega (arith, kind-below v)
 
   pub in-kind-below : (e : Edge) → inGrid size e ≡ true → e .row * edgeColumns size (e .vertical) + e .column < edgeRows size (e .vertical) * edgeColumns size (e .vertical)
   in-kind-below e h = digits-lt (within size e h .row-below) (within size e h .column-below)

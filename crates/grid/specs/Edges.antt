@@ -22,6 +22,10 @@ inGrid size e = ltb (e .column) (edgeColumns size (e .vertical)) && ltb (e .row)
 abbrev pub kindStart : Size → Bool → ℕ
 kindStart size vertical = cond vertical (size .height * (size .width - 1)) 0
 
+-- the lowest number of a row of a kind
+abbrev pub rowStart : Size → Bool → ℕ → ℕ
+rowStart size vertical r = kindStart size vertical + r * edgeColumns size vertical
+
 -- "number r×(W-1)+c" for a horizontal edge, "number H×(W-1)+r×W+c" for a vertical one
 unfoldable pub number : Size → Edge → ℕ
 number size e = kindStart size (e .vertical) + (e .row * edgeColumns size (e .vertical) + e .column)

@@ -3,7 +3,7 @@ use super::layer::Size;
 ghost use mathlib.Core.Path.{_≡_};
 ghost use mathlib.Core.Bool.{true};
 ghost use Prim.Native.Nat.{_<_};
-ghost use Rattle.grid.specs.Edges.{edgeColumns, edgeRows, kindStart, inGrid, number, edgeCount, edgeIn, edgeAt};
+ghost use Rattle.grid.specs.Edges.{edgeColumns, edgeRows, kindStart, rowStart, inGrid, number, edgeCount, edgeIn, edgeAt};
 ghost use Rattle.grid.specs.Questions.{Sized};
 
 pub struct Edge {
@@ -42,6 +42,15 @@ pub fn kind_start(size: Size, vertical: bool) -> usize
     } else {
         0
     }
+}
+
+// The number of the first edge of a row of a kind.
+pub fn row_start(size: Size, vertical: bool, row: usize) -> usize
+    requires { ⌜ Sized size ⌝ }
+    requires { ⌜ row < edgeRows size vertical ⌝ }
+    ensures { λ r. ⌜ r ≡ rowStart size vertical row ⌝ }
+{
+    kind_start(size, vertical) + row * edge_columns(size, vertical)
 }
 
 // How many edges there are.

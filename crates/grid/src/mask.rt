@@ -4,7 +4,7 @@ use super::layer::Size;
 use super::layer::row_byte;
 use super::layer::stride_of;
 ghost use mathlib.Core.Path.{_≡_};
-ghost use Prim.Native.Nat.{ℕ, _+_, _*_, _<_};
+ghost use Prim.Native.Nat.{ℕ, _+_, _*_, _≤_, _<_};
 ghost use Rattle.grid.specs.Layer.{layerOf, stride, bit, follows};
 ghost use Rattle.grid.specs.Edges.{edgeRows, Marks};
 ghost use Rattle.grid.specs.Questions.{Whole, Sound};
@@ -35,4 +35,16 @@ pub fn stick_byte(size: Size, bitmap: &[u8], vertical: bool, at: usize, row: usi
         return here ^ row_byte(size, bitmap, at, row + 1);
     }
     here ^ shifted_byte(size, bitmap, at, row)
+}
+
+// How many of the eight edges from a column on there are.
+pub fn run_length(columns: usize, column: usize) -> usize
+    requires { ⌜ column < columns ⌝ }
+    ensures { λ r. ⌜ (r ≤ 8) × (column + r ≤ columns) × (1 ≤ r) × (r < 8 → column + r ≡ columns) ⌝ }
+{
+    if columns - column < 8 {
+        columns - column
+    } else {
+        8
+    }
 }

@@ -1,12 +1,13 @@
 -- The hold table: "one 16-bit number per grid edge". An entry taken apart, and questions 5 and 6.
 use mathlib.Core.Bool.{Bool, false, cond, not, _&&_}
 use mathlib.Core.List.{List, [], _∷_, _++_}
-use Prim.Native.Nat.{ℕ, _-_}
+use Prim.Native.Nat.{ℕ, _+_, _-_}
 use lib.Dec.{eqb, leb}
-use lib.ListN.{length, getD}
-use Rattle.grid.specs.Layer.{Layer}
-use Rattle.grid.specs.Edges.{edgeCount, edgeAt, isStick}
+use lib.ListN.{getD}
+use Rattle.grid.specs.Layer.{Layer, bit}
+use Rattle.grid.specs.Edges.{kindStart, rowStart, edgeCount, stickIn, stickOf, stickAt}
 use Rattle.grid.specs.Questions.{ask, askEach, layerQuestions}
+use Rattle.grid.specs.declared.layer.Size.{Size}
 use Rattle.grid.specs.declared.question.Refusal.the-variants as Refusal
 use Rattle.grid.specs.declared.question.Answer.{Answer}
 use Rattle.table.specs.declared.entry.Entry.{Entry}
@@ -27,17 +28,31 @@ suits stick (Kept offset) = stick
 suits stick (Removed offset) = stick
 suits stick Wrong = false
 
--- "5. Is the table's length (W-1)×H + W×(H-1)? (0)"
-unfoldable pub tableLengthAnswer : Layer → List ℕ → Answer
-tableLengthAnswer L t = ask Refusal.TableLength (eqb (length t) (edgeCount (L .size)))
+-- "5. Is the table's length (W-1)×H + W×(H-1)? (0)", of a table of n entries
+unfoldable pub tableLengthAnswer : Size → ℕ → Answer
+tableLengthAnswer size n = ask Refusal.TableLength (eqb n (edgeCount size))
 
 -- questions 1 to 5, which every call on a table is asked first
-abbrev pub lengthQuestions : Layer → List ℕ → List Answer
-lengthQuestions L t = layerQuestions L ++ (tableLengthAnswer L t ∷ [])
+abbrev pub lengthQuestions : Layer → ℕ → List Answer
+lengthQuestions L n = layerQuestions L ++ (tableLengthAnswer (L .size) n ∷ [])
 
 -- "6. Is each entry 0 off sticks, and 1 to 255 or 257 to 511 on them? (lowest entry)"
+abbrev pub wrong : Bool → ℕ → Bool
+wrong stick n = not (suits stick (entryOf n))
+
 abbrev pub wrongAt : Layer → List ℕ → ℕ → Bool
-wrongAt L t k = not (suits (isStick L (edgeAt (L .size) k)) (entryOf (getD t k 0)))
+wrongAt L t k = wrong (stickAt L k) (getD t k 0)
 
 unfoldable pub entriesAnswer : Layer → List ℕ → Answer
 entriesAnswer L t = askEach Refusal.WrongEntry (wrongAt L t) (edgeCount (L .size))
+
+-- the same test by kind, and in one row
+abbrev pub wrongOf : Layer → List ℕ → Bool → ℕ → Bool
+wrongOf L t vertical k = wrong (stickOf L vertical k) (getD t (kindStart (L .size) vertical + k) 0)
+
+abbrev pub wrongIn : Layer → List ℕ → Bool → ℕ → ℕ → Bool
+wrongIn L t vertical r c = wrong (stickIn L vertical r c) (getD t (rowStart (L .size) vertical r + c) 0)
+
+-- and among the entries from a place on, of which the ones of a byte say which are on sticks
+abbrev pub wrongFrom : List ℕ → ℕ → ℕ → ℕ → Bool
+wrongFrom t start marks b = wrong (bit marks b) (getD t (start + b) 0)

@@ -1,7 +1,42 @@
-// What an entry of the hold table says of its edge.
+// An entry of the hold table taken apart.
+ghost use mathlib.Core.Path.{_≡_};
+ghost use Rattle.table.specs.Entries.{entryOf, wrong};
+
+// What an entry says of its edge: no stick, a vertex at an offset, kept or removed, or nothing that an entry may say.
 pub enum Entry {
     Nothing,
     Kept(u8),
     Removed(u8),
     Wrong,
+}
+
+pub fn entry_of(n: u16) -> Entry
+    ensures { λ r. ⌜ r ≡ entryOf n ⌝ }
+{
+    if n == 0 {
+        return Entry::Nothing;
+    }
+    if n <= 255 {
+        return Entry::Kept((n % 256) as u8);
+    }
+    if n < 257 {
+        return Entry::Wrong;
+    }
+    if n <= 511 {
+        return Entry::Removed((n % 256) as u8);
+    }
+    Entry::Wrong
+}
+
+// Whether an entry is wrong for its edge.
+pub fn is_wrong(stick: bool, n: u16) -> bool
+    ensures { λ r. ⌜ r ≡ wrong stick n ⌝ }
+{
+    let entry = entry_of(n);
+    match entry {
+        Entry::Nothing => stick,
+        Entry::Kept(_) => !stick,
+        Entry::Removed(_) => !stick,
+        Entry::Wrong => true,
+    }
 }

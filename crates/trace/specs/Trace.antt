@@ -1,18 +1,28 @@
 -- Trace: "every stick kept at 128".
 use mathlib.Core.Bool.{cond}
 use mathlib.Core.List.{List}
-use Prim.Native.Nat.{ℕ}
+use Prim.Native.Nat.{ℕ, _-_}
+use lib.ListN.{length}
 use Rattle.arith.specs.Ranges.{tabulate}
-use Rattle.grid.specs.Layer.{Layer}
-use Rattle.grid.specs.Edges.{edgeCount, edgeAt, isStick}
+use Rattle.grid.specs.Layer.{Layer, bit}
+use Rattle.grid.specs.Edges.{edgeCount, stickAt}
 use Rattle.grid.specs.Questions.{firstNo, ifAllYes, numberOf}
+use Rattle.grid.specs.declared.layer.Size.{Size}
 use Rattle.table.specs.Entries.{lengthQuestions}
 use Rattle.trace.specs.declared.Traced.{Traced}
 use Rattle.trace.specs.declared.Traced.the-variants.{Done, Refused}
 
+-- the sides that a call is given
+abbrev pub sizeOf : ℕ → ℕ → Size
+sizeOf w h = record { width = w; height = h }
+
 -- the entry of edge k
 abbrev pub tracedEntry : Layer → ℕ → ℕ
-tracedEntry L k = cond (isStick L (edgeAt (L .size) k)) 128 0
+tracedEntry L k = cond (stickAt L k) 128 0
+
+-- the same for the entries from a place on, of which the ones of a byte say which are on sticks
+abbrev pub tracedBit : ℕ → ℕ → ℕ → ℕ
+tracedBit start marks k = cond (bit marks (k - start)) 128 0
 
 -- the number of a refusal and its place, both 0 where the call is done; and the table at exit
 pub record Outcome : Type 0 where
@@ -23,7 +33,7 @@ pub record Outcome : Type 0 where
 -- Trace of a layer, on the table t that it is lent: "A refusal leaves all buffers as found"
 unfoldable pub traceOf : Layer → List ℕ → Outcome
 traceOf L t =
-    ifAllYes (firstNo (lengthQuestions L t))
+    ifAllYes (firstNo (lengthQuestions L (length t)))
     (λ q place. record { refusal = numberOf q; place = place; table = t })
     (record { refusal = 0; place = 0; table = tabulate (tracedEntry L) (edgeCount (L .size)) })
 

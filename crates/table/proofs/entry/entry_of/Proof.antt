@@ -1,0 +1,44 @@
+-- `entry_of` meets its contract.
+use mathlib.Core.Path.{_≡_, ap}
+use Prim.Native.Nat.{_%_, _-_}
+use native.Mathlib.Omega.{arith}
+use borrow.Author.Tests.{eq-eqb, ne-eqb, le-leb, lt-leb}
+use borrow.Author.Needs.{needs}
+use Rattle.table.specs.Entries.{entryOf}
+use Rattle.table.specs.declared.entry.Entry.the-variants.{Kept, Removed}
+use Rattle.table.proofs.entry.entry_of.Statement.{statement}
+use Rattle.table.proofs.entry.entry_of.Tie as tie
+
+returns : tie.Need-returns
+unfolding entryOf
+returns c = rw (eq-eqb (c .before .args .n) 0 (c .if1 .taken))
+
+cast-t4 : tie.Need-cast-t4
+cast-t4 c = search needs
+
+returns-2 : tie.Need-returns-2
+unfolding entryOf
+returns-2 c =
+    let e : c .before .before .args .n % 256 ≡ c .before .before .args .n = omega arith in
+    rw (ne-eqb (c .before .before .args .n) 0 (c .before .if1 .left), le-leb (c .before .before .args .n) 255 (c .if2 .taken)) (ap Kept e)
+
+returns-3 : tie.Need-returns-3
+unfolding entryOf
+returns-3 c = rw (ne-eqb (c .before .before .before .args .n) 0 (c .before .before .if1 .left), lt-leb (c .before .before .before .args .n) 255 (c .before .if2 .left), lt-leb 257 (c .before .before .before .args .n) (c .if3 .taken))
+
+cast-t6 : tie.Need-cast-t6
+cast-t6 c = search needs
+
+returns-4 : tie.Need-returns-4
+unfolding entryOf
+returns-4 c =
+    let e : c .before .before .before .before .args .n % 256 ≡ c .before .before .before .before .args .n - 256 = omega arith in
+    rw (ne-eqb (c .before .before .before .before .args .n) 0 (c .before .before .before .if1 .left), lt-leb (c .before .before .before .before .args .n) 255 (c .before .before .if2 .left), le-leb 257 (c .before .before .before .before .args .n) (c .before .if3 .left), le-leb (c .before .before .before .before .args .n) 511 (c .if4 .taken)) (ap Removed e)
+
+returns-5 : tie.Need-returns-5
+unfolding entryOf
+returns-5 c = rw (ne-eqb (c .before .before .before .before .args .n) 0 (c .before .before .before .if1 .left), lt-leb (c .before .before .before .before .args .n) 255 (c .before .before .if2 .left), le-leb 257 (c .before .before .before .before .args .n) (c .before .if3 .left), lt-leb (c .before .before .before .before .args .n) 511 (c .if4 .left))
+
+pub entry-of-spec : {M : Type 1} → statement M
+entry-of-spec =
+    tie.close (tie.spec returns cast-t4 returns-2 returns-3 cast-t6 returns-4 returns-5)

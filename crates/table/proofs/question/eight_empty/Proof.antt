@@ -1,0 +1,64 @@
+-- `eight_empty` meets its contract. The invariant: where nothing was found, the entries passed are 0.
+use mathlib.Core.Path.{_≡_, refl, ap, sym, _∙_}
+use mathlib.Core.Bool.{true}
+use Prim.Native.Nat.{ℕ, _+_, _-_, _*_, _≤_, _<_}
+use native.Mathlib.Omega.{arith}
+use borrow.Author.Needs.{needs}
+use borrow.Author.Count.{below-more}
+use borrow.Author.Tests.{eqb-true}
+use lib.Bits.{bitOr, or-add-and, and-le-l, and-le-r}
+use lib.ListN.{getD}
+use Rattle.table.proofs.question.eight_empty.Statement.{statement}
+use Rattle.table.proofs.question.eight_empty.Tie as tie
+
+neither : (a b : ℕ) → bitOr a b ≡ 0 → (a ≡ 0) × (b ≡ 0)
+neither a b e =
+    let sum = or-add-and a b in
+    (omega (arith, and-le-r a b), omega (arith, and-le-l a b))
+
+abbrev Inv-loop : tie.InvT-loop
+Inv-loop table start any₀ b₀ any b = (b ≤ 8) × (any ≡ 0 → (k : ℕ) → k < b → getD table (start + k) 0 ≡ 0)
+
+abbrev μ-loop : tie.MeasureT-loop
+μ-loop table start any₀ b₀ any b = 8 - b
+
+loop-holds : tie.Need-loop-holds Inv-loop μ-loop
+loop-holds c = (omega arith, λ e k h. absurd (omega arith))
+
+add-any : tie.Need-add-any Inv-loop μ-loop
+add-any c = search needs
+
+mul-any : tie.Need-mul-any Inv-loop μ-loop
+mul-any c = search needs
+
+shared-slice-read-any : tie.Need-shared-slice-read-any Inv-loop μ-loop
+shared-slice-read-any c = search needs
+
+add-b : tie.Need-add-b Inv-loop μ-loop
+add-b c = search needs
+
+loop-less : tie.Need-loop-less Inv-loop μ-loop
+loop-less c = search needs
+
+loop-again : tie.Need-loop-again Inv-loop μ-loop
+loop-again c =
+    let x = getD (c .before .before .before .args .table .now) (c .before .before .before .args .start + c .before .before .loop .b) 0 in
+    (omega arith, λ e. below-more (λ (k : ℕ). getD (c .before .before .before .args .table .now) (c .before .before .before .args .start + k) 0 ≡ 0) (c .before .before .loop .b) (c .before .before .loop .inv .1 (neither (c .before .before .loop .any) x e .0)) (neither (c .before .before .loop .any) x e .1))
+
+returns : tie.Need-returns Inv-loop μ-loop
+returns c = λ t k h. c .before .loop .inv .1 (eqb-true (c .before .loop .any) 0 t) k (omega arith)
+
+pub eight-empty-spec : {M : Type 1} → statement M
+eight-empty-spec =
+    tie.close
+    (tie.spec
+    Inv-loop
+    μ-loop
+    loop-holds
+    add-any
+    mul-any
+    shared-slice-read-any
+    add-b
+    loop-less
+    loop-again
+    returns)

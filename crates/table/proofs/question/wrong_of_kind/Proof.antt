@@ -1,0 +1,121 @@
+-- `wrong_of_kind` meets its contract. The invariant: no entry of a row passed is wrong.
+use mathlib.Core.Path.{_≡_, refl, ap, sym, _∙_}
+use mathlib.Core.Bool.{false}
+use Prim.Native.Nat.{ℕ, _+_, _-_, _*_, _≤_, _<_}
+use native.Mathlib.Omega.{arith}
+use borrow.Author.Needs.{needs}
+use Rattle.arith.specs.Ranges.{least-none}
+use Rattle.grid.specs.Layer.{layerOf}
+use Rattle.grid.specs.Edges.{edgeColumns, edgeRows}
+use Rattle.table.specs.Entries.{wrongOf}
+use Rattle.grid.proofs.Numbers.{columns-narrow, rows-small}
+use Rattle.table.proofs.Runs.{row-found, row-passed}
+use Rattle.table.proofs.question.wrong_of_kind.Statement.{statement}
+use Rattle.table.proofs.question.wrong_of_kind.Tie as tie
+
+abbrev Inv-loop : tie.InvT-loop
+Inv-loop size bitmap table vertical columns rows row₀ row = (row ≤ edgeRows size vertical) × ((k : ℕ) → k < row * edgeColumns size vertical → wrongOf (layerOf size bitmap) table vertical k ≡ false)
+
+abbrev μ-loop : tie.MeasureT-loop
+μ-loop size bitmap table vertical columns rows row₀ row = rows - row
+
+edge-columns-requires : tie.Need-edge-columns-requires Inv-loop μ-loop
+edge-columns-requires c κs = search needs
+
+edge-rows-requires : tie.Need-edge-rows-requires Inv-loop μ-loop
+edge-rows-requires c κs = search needs
+
+loop-holds : tie.Need-loop-holds Inv-loop μ-loop
+loop-holds c = (omega arith, λ k h. absurd (omega arith))
+
+wrong-in-row-requires : tie.Need-wrong-in-row-requires Inv-loop μ-loop
+wrong-in-row-requires c κs = let e = c .before .before .edge-rows .ensures in (c .before .before .before .before .before .before .pre .0, (c .before .before .before .before .before .before .pre .1, omega arith))
+
+mul-result : tie.Need-mul-result Inv-loop μ-loop
+mul-result c =
+    let a = c .before .before .before .before .before .before .before .before .args in
+    let L = layerOf (a .size) (a .bitmap .now) in
+    let given = c .before .before .before .before .before .before .before .before .pre in
+    let e = c .before .before .before .before .edge-rows .ensures in
+    let small = rows-small (a .size) (given .0 .whole .sized) (a .vertical) (c .before .before .before .loop .row) (omega arith) in
+    rw (c .before .before .before .before .before .edge-columns .ensures) (omega arith)
+
+add-result : tie.Need-add-result Inv-loop μ-loop
+add-result c =
+    let a = c .before .before .before .before .before .before .before .before .args in
+    let L = layerOf (a .size) (a .bitmap .now) in
+    let given = c .before .before .before .before .before .before .before .before .pre in
+    let e = c .before .before .before .before .edge-rows .ensures in
+    let small = rows-small (a .size) (given .0 .whole .sized) (a .vertical) (c .before .before .before .loop .row) (omega arith) in
+    let n = columns-narrow (a .size) (given .0 .whole .sized) (a .vertical) in
+    let f = c .before .before .before .before .before .edge-columns .ensures in
+    rw (c .before .before .before .before .before .edge-columns .ensures) (omega arith)
+
+returns : tie.Need-returns Inv-loop μ-loop
+returns c =
+    let a = c .before .before .before .before .before .before .before .before .args in
+    let L = layerOf (a .size) (a .bitmap .now) in
+    let given = c .before .before .before .before .before .before .before .before .pre in
+    let e = c .before .before .before .before .edge-rows .ensures in
+    let n = c .before .before .before .before .before .edge-columns .ensures in
+    rw (c .before .before .before .before .before .edge-columns .ensures)
+    (row-found L (a .table .now) (given .0 .whole .sized) (a .vertical) (c .before .before .before .loop .row) (omega arith) (c .before .before .before .loop .inv .1) (c .before .wrong-in-row .result) (c .before .wrong-in-row .ensures)
+    (rw (c .before .before .before .before .before .edge-columns .ensures) at (c .if1 .taken)))
+
+add-row : tie.Need-add-row Inv-loop μ-loop
+add-row c =
+    let a = c .before .before .before .before .before .before .before .before .args in
+    let L = layerOf (a .size) (a .bitmap .now) in
+    let given = c .before .before .before .before .before .before .before .before .pre in
+    let e = c .before .before .before .before .edge-rows .ensures in
+    let small = rows-small (a .size) (given .0 .whole .sized) (a .vertical) (c .before .before .before .loop .row) (omega arith) in
+    omega arith
+
+loop-less : tie.Need-loop-less Inv-loop μ-loop
+loop-less c = omega arith
+
+loop-again : tie.Need-loop-again Inv-loop μ-loop
+loop-again c =
+    let a = c .before .before .before .before .before .before .before .before .args in
+    let L = layerOf (a .size) (a .bitmap .now) in
+    let given = c .before .before .before .before .before .before .before .before .pre in
+    let e = c .before .before .before .before .edge-rows .ensures in
+    let n = c .before .before .before .before .before .edge-columns .ensures in
+    let found = c .before .wrong-in-row .ensures in
+    (omega arith, row-passed L (a .table .now) (given .0 .whole .sized) (a .vertical) (c .before .before .before .loop .row) (omega arith) (c .before .before .before .loop .inv .1) (omega arith))
+
+mul-result-2 : tie.Need-mul-result-2 Inv-loop μ-loop
+mul-result-2 c =
+    let a = c .before .before .before .before .before .before .args in
+    let L = layerOf (a .size) (a .bitmap .now) in
+    let given = c .before .before .before .before .before .before .pre in
+    let small = rows-small (a .size) (given .0 .whole .sized) (a .vertical) (edgeRows (a .size) (a .vertical)) (omega arith) in
+    rw (c .before .before .edge-rows .ensures, c .before .before .before .edge-columns .ensures) (omega arith)
+
+returns-2 : tie.Need-returns-2 Inv-loop μ-loop
+returns-2 c =
+    let a = c .before .before .before .before .before .before .args in
+    let L = layerOf (a .size) (a .bitmap .now) in
+    let given = c .before .before .before .before .before .before .pre in
+    let whole : c .before .loop .row ≡ edgeRows (a .size) (a .vertical) = let e = c .before .before .edge-rows .ensures in let i = c .before .loop .inv .0 in omega arith in
+    rw (c .before .before .edge-rows .ensures, c .before .before .before .edge-columns .ensures)
+    (sym (least-none (wrongOf L (a .table .now) (a .vertical)) (edgeRows (a .size) (a .vertical) * edgeColumns (a .size) (a .vertical)) (λ k h. c .before .loop .inv .1 k (rw whole h))))
+
+pub wrong-of-kind-spec : {M : Type 1} → statement M
+wrong-of-kind-spec =
+    tie.close
+    (tie.spec
+    Inv-loop
+    μ-loop
+    edge-columns-requires
+    edge-rows-requires
+    loop-holds
+    wrong-in-row-requires
+    mul-result
+    add-result
+    returns
+    add-row
+    loop-less
+    loop-again
+    mul-result-2
+    returns-2)

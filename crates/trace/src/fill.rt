@@ -1,0 +1,63 @@
+// Writes the table of a traced layer, eight entries at a time, from the byte that marks the sticks among them.
+use grid::Size;
+ghost use mathlib.Core.Path.{_≡_};
+ghost use Prim.Native.Nat.{_+_, _≤_, _<_, _*_};
+ghost use lib.ListN.{length};
+ghost use Rattle.arith.specs.Ranges.{fill};
+ghost use Rattle.grid.specs.Layer.{layerOf};
+ghost use Rattle.grid.specs.Edges.{edgeColumns, edgeRows, edgeCount, kindStart, rowStart};
+ghost use Rattle.grid.specs.Questions.{Sound};
+ghost use Rattle.trace.specs.Trace.{tracedEntry, tracedBit};
+
+// `count` entries from `start` on: bit b of marks says whether the b-th of them is on a stick.
+fn fill_run(table: &mut [u16], start: usize, count: usize, marks: u8)
+    requires { ⌜ start + count ≤ length (now table) ⌝ }
+    requires { ⌜ count ≤ 8 ⌝ }
+    ensures { λ _. ⌜ now (table .exit) ≡ fill (tracedBit start marks) start count (now (table .entry)) ⌝ }
+{
+    let mut b = 0;
+    while b < count {
+        table[start + b] = if (marks >> b) % 2 == 1 { 128 } else { 0 };
+        b += 1;
+    }
+}
+
+fn fill_row(size: Size, bitmap: &[u8], table: &mut [u16], vertical: bool, row: usize)
+    requires { ⌜ Sound (layerOf size (now bitmap)) ⌝ }
+    requires { ⌜ length (now table) ≡ edgeCount size ⌝ }
+    requires { ⌜ row < edgeRows size vertical ⌝ }
+    ensures { λ _. ⌜ now (table .exit) ≡ fill (tracedEntry (layerOf size (now (bitmap .entry)))) (rowStart size vertical row) (edgeColumns size vertical) (now (table .entry)) ⌝ }
+{
+    let columns = grid::edge_columns(size, vertical);
+    let start = grid::row_start(size, vertical, row);
+    let mut at = 0;
+    while 8 * at < columns {
+        let marks = grid::stick_byte(size, bitmap, vertical, at, row);
+        let count = grid::run_length(columns, 8 * at);
+        fill_run(table, start + 8 * at, count, marks);
+        at += 1;
+    }
+}
+
+fn fill_kind(size: Size, bitmap: &[u8], table: &mut [u16], vertical: bool)
+    requires { ⌜ Sound (layerOf size (now bitmap)) ⌝ }
+    requires { ⌜ length (now table) ≡ edgeCount size ⌝ }
+    ensures { λ _. ⌜ now (table .exit) ≡ fill (tracedEntry (layerOf size (now (bitmap .entry)))) (kindStart size vertical) (edgeRows size vertical * edgeColumns size vertical) (now (table .entry)) ⌝ }
+{
+    let rows = grid::edge_rows(size, vertical);
+    let mut row = 0;
+    while row < rows {
+        fill_row(size, bitmap, table, vertical, row);
+        row += 1;
+    }
+}
+
+// The whole table.
+pub fn fill_table(size: Size, bitmap: &[u8], table: &mut [u16])
+    requires { ⌜ Sound (layerOf size (now bitmap)) ⌝ }
+    requires { ⌜ length (now table) ≡ edgeCount size ⌝ }
+    ensures { λ _. ⌜ now (table .exit) ≡ fill (tracedEntry (layerOf size (now (bitmap .entry)))) 0 (edgeCount size) (now (table .entry)) ⌝ }
+{
+    fill_kind(size, bitmap, table, false);
+    fill_kind(size, bitmap, table, true);
+}
