@@ -157,6 +157,10 @@ unfolding fill
 length-fill f a zero t = refl
 length-fill f a (suc n) t = length-set (fill f a n t) (a + n) (f (a + n)) ∙ length-fill f a n t
 
+pub fill-none : (f : ℕ → ℕ) (a : ℕ) (t : List ℕ) → t ≡ fill f a 0 t
+unfolding fill
+fill-none f a t = refl
+
 pub fill-more : (f : ℕ → ℕ) (a n : ℕ) (t : List ℕ) → set (fill f a n t) (a + n) (f (a + n)) ≡ fill f a (n + 1) t
 unfolding fill
 fill-more f a n t = rw add-one

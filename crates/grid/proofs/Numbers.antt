@@ -2,7 +2,7 @@
 use mathlib.Core.Path.{_≡_, refl, ap, ap₂, sym, _∙_}
 use mathlib.Core.Bool.{Bool, true, false, cond}
 use Prim.Native.Nat.{ℕ, _+_, _-_, _*_, _/_, _%_, _≤_, _<_}
-use native.Mathlib.Nat.{zero-add, mul-le-mul, mul-comm, div-add-mod', div-lt-iff-lt-mul, mod-lt}
+use native.Mathlib.Nat.{zero-add, add-assoc, mul-le-mul, mul-comm, div-add-mod', div-lt-iff-lt-mul, mod-lt}
 use native.Mathlib.Decide.{decLt}
 use native.Mathlib.Omega.{arith}
 use borrow.Author.Tests.{ltb-true, lt-ltb, le-ltb}
@@ -103,6 +103,13 @@ module _ (size : Size) (sized : Sized size) where
   edgeAt-kind true k h =
       rw (le-ltb (kindStart size true + k) (kindStart size true) (omega arith)) (ap (edgeIn size true) (omega arith))
   edgeAt-kind false k h = rw (zero-add, lt-ltb k (kindStart size true) h)
+
+  pub edgeAt-row : (v : Bool) (c r : ℕ) → c < edgeColumns size v → r < edgeRows size v
+      → edgeAt size (rowStart size v r + c) ≡ record { vertical = v; column = c; row = r }
+  edgeAt-row v c r hc hr =
+      ap (edgeAt size) (add-assoc (kindStart size v) (r * edgeColumns size v) c)
+      ∙ edgeAt-kind v (r * edgeColumns size v + c) (digits-lt hr hc)
+      ∙ edgeIn-at v c r hc
 
   pub edgeAt-number : (e : Edge) → inGrid size e ≡ true → edgeAt size (number size e) ≡ e
   unfolding number

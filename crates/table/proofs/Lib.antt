@@ -1,2 +1,3 @@
 -- Laws on the definitions of specs/ that the proofs of this crate cite.
 pub mod Runs
+pub mod Lengths

@@ -1,0 +1,24 @@
+-- `entry_at` meets its contract.
+use mathlib.Core.Path.{_≡_}
+use borrow.Author.Tests.{eq-eqb, ne-eqb}
+use borrow.Author.Needs.{needs}
+use Rattle.grid.specs.Layer.{bit}
+use Rattle.trace.proofs.fill.entry_at.Statement.{statement}
+use Rattle.trace.proofs.fill.entry_at.Tie as tie
+
+cast-if1 : tie.Need-cast-if1
+cast-if1 c = search needs
+
+shr-if1 : tie.Need-shr-if1
+shr-if1 c = search needs
+
+returns : tie.Need-returns
+unfolding bit
+returns c = rw (eq-eqb _ _ (c .if1 .taken))
+
+returns-2 : tie.Need-returns-2
+unfolding bit
+returns-2 c = rw (ne-eqb _ _ (c .if1 .left))
+
+pub entry-at-spec : {M : Type 1} → statement M
+entry-at-spec = tie.close (tie.spec cast-if1 shr-if1 returns returns-2)

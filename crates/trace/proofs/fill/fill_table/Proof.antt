@@ -1,0 +1,33 @@
+-- `fill_table` meets its contract.
+use mathlib.Core.Path.{_≡_, refl, ap, sym, _∙_}
+use mathlib.Core.Bool.{true}
+use Prim.Native.Nat.{ℕ, _+_, _-_, _*_, _≤_, _<_}
+use borrow.Author.Needs.{needs}
+use Rattle.arith.specs.Ranges.{fill}
+use Rattle.grid.specs.Layer.{layerOf}
+use Rattle.grid.specs.Edges.{edgeColumns, edgeRows, kindStart}
+use Rattle.trace.specs.Trace.{tracedEntry}
+use Rattle.trace.proofs.Entries.{kinds-join}
+use Rattle.trace.proofs.fill.fill_table.Statement.{statement}
+use Rattle.trace.proofs.fill.fill_table.Tie as tie
+
+fill-kind-requires : tie.Need-fill-kind-requires
+fill-kind-requires c κs = search needs
+
+fill-kind-requires-2 : tie.Need-fill-kind-requires-2
+fill-kind-requires-2 c κs = search needs
+
+same-length : tie.Need-same-length
+same-length c = search needs
+
+returns : tie.Need-returns
+returns c =
+    let a = c .before .before .before .before .before .before .before .before .before .before .args in
+    let L = layerOf (a .size) (a .bitmap .now) in
+    let given = c .before .before .before .before .before .before .before .before .before .before .pre in
+    c .before .before .fill-kind2 .ensures
+    ∙ ap (fill (tracedEntry L) (kindStart (a .size) true) (edgeRows (a .size) true * edgeColumns (a .size) true)) (c .before .before .before .before .before .before .fill-kind .ensures)
+    ∙ kinds-join L (given .0 .whole .sized) (a .table .now)
+
+pub fill-table-spec : {M : Type 1} → statement M
+fill-table-spec = tie.close (tie.spec fill-kind-requires fill-kind-requires-2 same-length returns)
