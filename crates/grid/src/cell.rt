@@ -22,72 +22,25 @@ pub struct CellSide {
     pub side: Side,
 }
 
-// For each of the sixteen patterns the sides linked to the south, east, north and west side. A side that is no stick has its own number.
-const LINKS: [u8; 64] = [
-    0,
-    1,
-    2,
-    3, // none inside
-    3,
-    1,
-    2,
-    0, // sw
-    1,
-    0,
-    2,
-    3, // se
-    0,
-    3,
-    2,
-    1, // sw se
-    0,
-    1,
-    3,
-    2, // nw
-    2,
-    1,
-    0,
-    3, // sw nw
-    1,
-    0,
-    3,
-    2, // se nw
-    0,
-    2,
-    1,
-    3, // sw se nw
-    0,
-    2,
-    1,
-    3, // ne
-    3,
-    2,
-    1,
-    0, // sw ne
-    2,
-    1,
-    0,
-    3, // se ne
-    0,
-    1,
-    3,
-    2, // sw se ne
-    0,
-    3,
-    2,
-    1, // nw ne
-    1,
-    0,
-    2,
-    3, // sw nw ne
-    3,
-    1,
-    2,
-    0, // se nw ne
-    0,
-    1,
-    2,
-    3, // all inside
+// For each of the sixteen patterns of inside corners the sides linked to its sides, two bits each: west, north, east and, lowest, south.
+// A side that is no stick has its own number.
+const LINKS: [u8; 16] = [
+    0b11_10_01_00, // none inside
+    0b00_10_01_11, // sw
+    0b11_10_00_01, // se
+    0b01_10_11_00, // sw se
+    0b10_11_01_00, // nw
+    0b11_00_01_10, // sw nw
+    0b10_11_00_01, // se nw
+    0b11_01_10_00, // sw se nw
+    0b11_01_10_00, // ne
+    0b00_01_10_11, // sw ne
+    0b11_00_01_10, // se ne
+    0b10_11_01_00, // sw se ne
+    0b01_10_11_00, // nw ne
+    0b11_10_00_01, // sw nw ne
+    0b00_10_01_11, // se nw ne
+    0b11_10_01_00, // all inside
 ];
 
 fn as_number(b: bool) -> usize
@@ -141,11 +94,11 @@ pub fn linked(size: Size, bitmap: &[u8], p: CellSide) -> CellSide
     ensures { λ r. ⌜ r ≡ link (layerOf size (now (bitmap .entry))) p ⌝ }
 {
     let side = p.side;
-    let at = 4 * pattern(size, bitmap, p.column, p.row) + side_index(side);
+    let links = LINKS[pattern(size, bitmap, p.column, p.row)];
     CellSide {
         column: p.column,
         row: p.row,
-        side: side_at(LINKS[at]),
+        side: side_at((links >> (2 * side_index(side))) % 4),
     }
 }
 

@@ -2,7 +2,7 @@
 use mathlib.Core.Path.{_≡_, _∙_}
 use mathlib.Core.Bool.{xor}
 use mathlib.Core.List.{List, [], _∷_}
-use Prim.Native.Nat.{ℕ, _+_, _*_, _<_}
+use Prim.Native.Nat.{ℕ, _*_, _/_, _%_, _^_, _<_}
 use native.Mathlib.Omega.{arith}
 use borrow.Author.Needs.{needs}
 use lib.ListN.{getD}
@@ -14,50 +14,48 @@ use Rattle.grid.proofs.cell.linked.Statement.{statement}
 use Rattle.grid.proofs.cell.linked.Tie as tie
 
 links : List ℕ
-links = 0 ∷ 1 ∷ 2 ∷ 3 ∷ 3 ∷ 1 ∷ 2 ∷ 0 ∷ 1 ∷ 0 ∷ 2 ∷ 3 ∷ 0 ∷ 3 ∷ 2 ∷ 1 ∷ 0 ∷ 1 ∷ 3 ∷ 2 ∷ 2 ∷ 1 ∷ 0 ∷ 3 ∷ 1 ∷ 0 ∷ 3 ∷ 2 ∷ 0 ∷ 2 ∷ 1 ∷ 3 ∷ 0 ∷ 2 ∷ 1 ∷ 3 ∷ 3 ∷ 2 ∷ 1 ∷ 0 ∷ 2 ∷ 1 ∷ 0 ∷ 3 ∷ 0 ∷ 1 ∷ 3 ∷ 2 ∷ 0 ∷ 3 ∷ 2 ∷ 1 ∷ 1 ∷ 0 ∷ 2 ∷ 3 ∷ 3 ∷ 1 ∷ 2 ∷ 0 ∷ 0 ∷ 1 ∷ 2 ∷ 3 ∷ []
+links = 228 ∷ 39 ∷ 225 ∷ 108 ∷ 180 ∷ 198 ∷ 177 ∷ 216 ∷ 216 ∷ 27 ∷ 198 ∷ 180 ∷ 108 ∷ 225 ∷ 39 ∷ 228 ∷ []
 
-table : (k : Corners) (s : Side) → sideAt (getD links (4 * index k + sideIndex s) 0) ≡ partner k s
-unfolding links xor
-table k s =
-    same-side (sideAt (getD links (4 * index k + sideIndex s) 0)) (partner k s)
-    (at (λ k s. sameSide (sideAt (getD links (4 * index k + sideIndex s) 0)) (partner k s)) tt k s)
+linkedTo : Corners → Side → Side
+linkedTo k s = sideAt (getD links (index k) 0 / 2 ^ (2 * sideIndex s) % 4)
+
+table : (k : Corners) (s : Side) → linkedTo k s ≡ partner k s
+unfolding links linkedTo xor
+table k s = same-side (linkedTo k s) (partner k s) (at (λ k s. sameSide (linkedTo k s) (partner k s)) tt k s)
 
 pattern-requires : tie.Need-pattern-requires
 pattern-requires c κs = search needs
 
-small : (c : tie.After-pattern) → c .pattern .result < 16
-small c =
+array-read-links : tie.Need-array-read-links
+array-read-links c =
     let a = c .before .before .args in
     rw (c .pattern .ensures) (index-below (corners (layerOf (a .size) (a .bitmap .now)) (a .p .column) (a .p .row)))
-
-mul-at : tie.Need-mul-at
-mul-at c = omega (arith, small c)
 
 side-index-requires : tie.Need-side-index-requires
 side-index-requires c κs = search needs
 
-below : (c : tie.After-side-index) → 4 * c .before .pattern .result + c .side-index .result < 64
-below c =
-    let s = sideIndex-below (c .before .before .before .args .p .side) in
-    omega (arith, small (c .before), c .side-index .ensures)
+small : (c : tie.After-side-index) → c .side-index .result < 4
+small c = rw (c .side-index .ensures) (sideIndex-below (c .before .before .before .args .p .side))
 
-add-at : tie.Need-add-at
-add-at c = omega (arith, below c)
+mul-side-at : tie.Need-mul-side-at
+mul-side-at c = omega (arith, small c)
 
-array-read-side-at : tie.Need-array-read-side-at
-array-read-side-at c = below c
+cast-side-at : tie.Need-cast-side-at
+cast-side-at c = omega (arith, small c)
+
+shr-side-at : tie.Need-shr-side-at
+shr-side-at c = omega (arith, small c)
 
 side-at-requires : tie.Need-side-at-requires
 side-at-requires c κs = search needs
 
 returns : tie.Need-returns
-unfolding links
+unfolding links linkedTo
 returns c =
     let a = c .before .before .before .before .args in
     let k = corners (layerOf (a .size) (a .bitmap .now)) (a .p .column) (a .p .row) in
     let e : c .side-at .result ≡ partner k (a .p .side) =
-    c .side-at .ensures
-    ∙ rw (c .before .side-index .ensures, c .before .before .pattern .ensures) (table k (a .p .side)) in
+    c .side-at .ensures ∙ rw (c .before .side-index .ensures, c .before .before .pattern .ensures) (table k (a .p .side)) in
     λ i. record { column = a .p .column; row = a .p .row; side = e i }
 
 pub linked-spec : {M : Type 1} → statement M
@@ -65,9 +63,10 @@ linked-spec =
     tie.close
     (tie.spec
     pattern-requires
-    mul-at
+    array-read-links
     side-index-requires
-    add-at
-    array-read-side-at
+    mul-side-at
+    cast-side-at
+    shr-side-at
     side-at-requires
     returns)
