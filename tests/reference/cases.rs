@@ -1,4 +1,4 @@
-// The cases of document 01's section 'Cases', starred or not, each with the
+// The cases of the paper's section 'Cases', starred or not, each with the
 // figures it gives, and the layer program's example.
 
 use crate::contour::contours;

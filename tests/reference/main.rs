@@ -1,4 +1,4 @@
-// The reference that Puzhenim is compared with: every call of document 01, written
+// The reference that Puzhenim is compared with: every call of the paper, written
 // from that paper alone, and the vectors that both are run on.
 // Build: rustc -O --edition 2021 -o reference tests/reference/main.rs
 

@@ -1,4 +1,4 @@
-// Cases beside document 01's own: for each question 1 to 15 what is refused, at
+// Cases beside the paper's own: for each question 1 to 15 what is refused, at
 // which place, and which of two noes wins.
 
 use crate::cases::{call, check, traced, whole, Check, BAR, SINGLE};

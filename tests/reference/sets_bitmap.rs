@@ -31,7 +31,7 @@ fn extreme_sides(b: &mut Builder, call: Call) {
     }
 }
 
-/// The layers that document 01 names, and other regular ones.
+/// The layers that the paper names, and other regular ones.
 fn regular_layers() -> Vec<Layer> {
     let mut layers = vec![
         Layer::blank(3, 3),

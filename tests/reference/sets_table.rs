@@ -11,7 +11,7 @@ use crate::script::Command;
 const LIMITS: [u16; 7] = [0, 1, 2, 9, 10, 50, 65535];
 const TOLERANCES: [u8; 9] = [0, 1, 11, 12, 64, 85, 86, 128, 255];
 
-/// The layers of document 01's cases.
+/// The layers of the paper's cases.
 fn single() -> Layer {
     picture::shown("... .#. ...")
 }
@@ -132,7 +132,7 @@ pub fn smooth(b: &mut Builder) {
     threshold(b);
 }
 
-/// The bar of document 01 with its lower middle vertex slid to 140.
+/// The bar of the paper with its lower middle vertex slid to 140.
 fn slid_bar(b: &mut Builder) {
     b.traced(&bar());
     let lower_middle = 12 + 2;
@@ -265,7 +265,7 @@ fn far_sticks(b: &mut Builder) {
     }
 }
 
-/// Document 01's cases: a slide to 0 and to 255, the bar's lower middle vertex.
+/// The paper's cases: a slide to 0 and to 255, the bar's lower middle vertex.
 fn roll_cases(b: &mut Builder) {
     for offset in [0, 1, 128, 254, 255] {
         b.traced(&single());

@@ -63,7 +63,7 @@ fn read(b: &mut Builder, sheet: Vec<u8>) {
     b.add(Command::ReadSheet { bytes: sheet });
 }
 
-/// The sheet of document 01's layer program, cut at each length and with each
+/// The sheet of the paper's layer program, cut at each length and with each
 /// byte changed.
 fn damaged_example(b: &mut Builder) {
     b.traced(&picture::shown("... .#. ..."));

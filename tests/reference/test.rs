@@ -1,4 +1,4 @@
-// The reference's own test: document 01's cases, random layers and calls against
+// The reference's own test: the paper's cases, random layers and calls against
 // slow checks, and the sets of vectors.
 
 use crate::brute::{self, Stroke};
@@ -102,7 +102,7 @@ fn counting(wrong: &mut Wrong, rng: &mut Rng) {
     }
 }
 
-/// Whether the table is as the definitions of document 01 ask, by the slow checks
+/// Whether the table is as the definitions of the paper ask, by the slow checks
 /// and by those of the calls.
 fn faithful(layer: &Layer, table: &[u16]) -> bool {
     let walks = contours(layer);
