@@ -1,0 +1,3 @@
+-- Chords: points and segments over whole numbers as the paper states them, and the tests that compute.
+pub mod Points
+pub mod Crossing
