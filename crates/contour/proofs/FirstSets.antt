@@ -1,0 +1,125 @@
+-- What the set of first sticks tells: how many contours there are, which is next, and the laws of a loop over all contours that goes
+-- from set bit to set bit, `n = next_first(set, 0); while n < 1047552 { work on the contour of edge n; n = next_first(set, n + 1); }`.
+-- Its invariant: `Stop L n`, and that folding over the contours that begin at n or after gives the whole fold.
+use mathlib.Core.Path.{_≡_, ap, sym, _∙_}
+use mathlib.Core.Bool.{Bool, true, false}
+use mathlib.Core.List.{List, foldl}
+use Prim.Native.Nat.{ℕ, _+_, _-_, _≤_, _<_}
+use native.Mathlib.Decide.{decLt}
+use native.Mathlib.Omega.{arith}
+use Rattle.arith.specs.Booleans.{both-sides}
+use Rattle.arith.specs.Ranges.{count, count-add, count-same, count-none}
+use Rattle.arith.specs.Finite.{Least, least-from}
+use Rattle.grid.specs.Layer.{Layer}
+use Rattle.grid.specs.Edges.{edgeAt, edgeCount, kindStart, isStick}
+use Rattle.grid.specs.Questions.{Sound}
+use Rattle.grid.specs.declared.edge.Edge.{Edge}
+use Rattle.contour.specs.Walk.{first, contoursFrom, nextFirst}
+use Rattle.contour.specs.Contours.{walkOf, contourOf, contoursOf, contourCount}
+use Rattle.contour.specs.Sets.{places, has, FirstSet, nextIn, sizeOf}
+use Rattle.grid.proofs.Numbers.{kind-below}
+use Rattle.contour.proofs.First.{first-one}
+use Rattle.contour.proofs.Contours.{length-contours}
+use Rattle.contour.proofs.Outer.{next-first, next-unique, all-start, all-skip, all-turn, all-end}
+use Rattle.contour.proofs.Sticks.{laws}
+use Rattle.contour.proofs.Scans.{horizontal-fits, first-low-number}
+
+-- n is the number of a first stick, or `places`
+pub record Stop (L : Layer) (n : ℕ) : Type 0 where
+  pub within : n ≤ places
+  pub is-first : n < places → first (walkOf L) (edgeAt (L .size) n) ≡ true
+
+module _ (L : Layer) (sound : Sound L) (s : List ℕ) (set : FirstSet L s) where
+  abbrev isFirst : ℕ → Bool
+  isFirst n = first (walkOf L) (edgeAt (L .size) n)
+
+  -- no edge is first past the horizontal ones
+  none-past : (k : ℕ) → kindStart (L .size) true ≤ k → isFirst k ≡ false
+  none-past k l = both-sides (isFirst k) (λ f. absurd (omega (arith, first-low-number L sound k f))) (λ f. f)
+
+  -- so the set has none there
+  pub set-above : (k : ℕ) → kindStart (L .size) true ≤ k → has s k ≡ false
+  set-above k l = set .says k ∙ none-past k l
+
+  -- The set has as many numbers as the layer has contours
+
+  count-to : (n : ℕ) → kindStart (L .size) true ≤ n → count isFirst n ≡ count isFirst (kindStart (L .size) true)
+  count-to n l =
+      let k : ℕ = kindStart (L .size) true in
+      let e : k + (n - k) ≡ n = omega arith in
+      sym (ap (count isFirst) e) ∙ count-add isFirst k (n - k)
+      ∙ omega (arith, count-none (λ j. isFirst (k + j)) (n - k) (λ j h. none-past (k + j) (omega arith)))
+
+  pub set-count : sizeOf s ≡ contourCount L
+  set-count =
+      count-same (has s) isFirst places (λ k h. set .says k)
+      ∙ count-to places (horizontal-fits (L .size) (sound .whole .sized))
+      ∙ sym (count-to (edgeCount (L .size)) (omega (arith, kind-below (L .size) (sound .whole .sized) false)))
+      ∙ sym (length-contours (walkOf L))
+
+  -- The next first stick from p on
+
+  module _ (p n : ℕ) (h : p ≤ places) (e : n ≡ nextIn s p) where
+    least-of : Least (has s) p (places - p) n
+    least-of = rw e (least-from (has s) p (places - p))
+
+    pub next-from : p ≤ n
+    next-from = least-of .from
+
+    pub next-stop : Stop L n
+    next-stop = record {
+      within = omega (arith, least-of .to);
+      is-first = λ l. sym (set .says n) ∙ least-of .here (omega arith);
+    }
+
+    -- none is skipped
+    pub next-none : (j : ℕ) → p ≤ j → j < n → first (walkOf L) (edgeAt (L .size) j) ≡ false
+    next-none j a b = sym (set .says j) ∙ least-of .before j a b
+
+    -- it is `nextFirst`, which says the number of edges where there is none
+    pub next-some : n < places → n ≡ nextFirst (walkOf L) p
+    next-some l =
+        let f = next-stop .is-first l in
+        let below : n < edgeCount (L .size) =
+        omega (arith, first-low-number L sound n f, kind-below (L .size) (sound .whole .sized) false) in
+        next-unique (walkOf L) p n (nextFirst (walkOf L) p)
+        (record { from = next-from; to = omega arith; before = next-none; here = λ b. f })
+        (next-first (walkOf L) p (omega (arith, next-from)))
+
+    pub next-last : places ≤ n → p ≤ edgeCount (L .size) → nextFirst (walkOf L) p ≡ edgeCount (L .size)
+    next-last l b =
+        next-unique (walkOf L) p (nextFirst (walkOf L) p) (edgeCount (L .size)) (next-first (walkOf L) p b)
+        (record {
+          from = b;
+          to = omega arith;
+          before = λ j a c. elim (decLt j n) [ yes y ↦ next-none j a y | no g ↦ none-past j (omega (arith, horizontal-fits (L .size) (sound .whole .sized))) ];
+          here = λ c. absurd (omega arith);
+        })
+
+  -- the loop works on a stick
+  pub stop-stick : (n : ℕ) → Stop L n → n < places → isStick L (edgeAt (L .size) n) ≡ true
+  stop-stick n stop l = first-one (walkOf L) (laws L sound) (edgeAt (L .size) n) (stop .is-first l)
+
+  -- Folding over all contours: `pass` is what is done for one, `whole` what comes of all of them
+
+  module _ {B : Type 0} (pass : B → List Edge → B) (t : B) where
+    pub set-start : (n : ℕ) → n ≡ nextIn s 0 → foldl pass t (contoursFrom (walkOf L) n) ≡ foldl pass t (contoursOf L)
+    set-start n e =
+        all-skip (walkOf L) pass t (foldl pass t (contoursOf L)) 0 n (omega arith) (next-none 0 n (omega arith) e) (all-start (walkOf L) pass t)
+
+    module _ (whole : B) where
+      pub set-turn : (n n′ : ℕ) → Stop L n → n < places → n′ ≡ nextIn s (n + 1) → foldl pass t (contoursFrom (walkOf L) n) ≡ whole
+          → foldl pass (pass t (contourOf L (edgeAt (L .size) n))) (contoursFrom (walkOf L) n′) ≡ whole
+      set-turn n n′ stop l e inv =
+          let f = stop .is-first l in
+          let below : n < edgeCount (L .size) =
+          omega (arith, first-low-number L sound n f, kind-below (L .size) (sound .whole .sized) false) in
+          all-skip (walkOf L) pass (pass t (contourOf L (edgeAt (L .size) n))) whole (n + 1) n′ (next-from (n + 1) n′ (omega arith) e)
+          (next-none (n + 1) n′ (omega arith) e)
+          (all-turn (walkOf L) pass t whole n below f inv)
+
+      pub set-end : (n : ℕ) → places ≤ n → foldl pass t (contoursFrom (walkOf L) n) ≡ whole → t ≡ whole
+      set-end n l inv =
+          let end : ℕ = n + edgeCount (L .size) in
+          all-end (walkOf L) pass t whole end (omega arith)
+          (all-skip (walkOf L) pass t whole n end (omega arith) (λ j a b. none-past j (omega (arith, horizontal-fits (L .size) (sound .whole .sized)))) inv)

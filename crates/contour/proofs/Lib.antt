@@ -1,0 +1,18 @@
+-- Laws that the proofs of this crate and of those above it cite: on walks over numbered elements (Orbit to Marking), on the contours of a
+-- layer (Sticks, Horizontal, Theorems, Examples), and on the set of first sticks and the scan that fills it (Words to FirstSets).
+pub mod Orbit
+pub mod Members
+pub mod First
+pub mod Contours
+pub mod Loop
+pub mod Outer
+pub mod Marking
+pub mod Sticks
+pub mod Horizontal
+pub mod Theorems
+pub mod Examples
+pub mod Words
+pub mod Sets
+pub mod Bytes
+pub mod Scans
+pub mod FirstSets

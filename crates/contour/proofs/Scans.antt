@@ -1,0 +1,216 @@
+-- The scan for first sticks on a sound layer: how the walk along a contour marks it, and what each step keeps true of the set.
+use mathlib.Core.Path.{_≡_, refl, ap, sym, subst, _∙_}
+use mathlib.Core.Logic.{_≢_}
+use mathlib.Core.Bool.{Bool, true, false, true≢false, false≢true, cond, not}
+use mathlib.Core.List.{List, foldl}
+use Prim.Native.Nat.{ℕ, _+_, _-_, _*_, min, _≤_, _<_}
+use native.Mathlib.Decide.{decLt}
+use native.Mathlib.Nat.{mul-le-mul}
+use native.Mathlib.Omega.{arith}
+use borrow.Author.Tests.{lt-ltb, le-ltb}
+use lib.ListN.{length}
+use Rattle.arith.specs.Booleans.{both-sides}
+use Rattle.grid.specs.Layer.{Layer}
+use Rattle.grid.specs.Edges.{isStick, number, edgeAt, edgeCount, kindStart}
+use Rattle.grid.specs.Questions.{Sized, Sound}
+use Rattle.grid.specs.declared.layer.Size.{Size}
+use Rattle.grid.specs.declared.edge.Edge.{Edge}
+use Rattle.contour.specs.Walk.{first}
+use Rattle.contour.specs.Contours.{walkOf, contourOf}
+use Rattle.contour.specs.Sets.{words, places, has, Empty, FirstSet}
+use Rattle.contour.specs.Marking.{with, without, markEdge, horizontal, Scanned}
+use Rattle.grid.proofs.Numbers.{in-grid, kind-below, edgeAt-number}
+use Rattle.contour.proofs.Members.{on-one}
+use Rattle.contour.proofs.Sticks.{laws}
+use Rattle.contour.proofs.Horizontal.{horizontal-low, first-horizontal}
+use Rattle.contour.proofs.Sets.{has-with, has-with-other, has-without, has-without-other, length-with, length-without, has-none, has-past}
+use Rattle.contour.proofs.Marking.{Marks, mark-start, mark-clear, mark-set, mark-passed, mark-contour, mark-skip, bits-ok}
+
+-- horizontal edges are numbered row by row, and have a bit each
+pub horizontal-number : (size : Size) (e : Edge) → e .vertical ≡ false → number size e ≡ e .row * (size .width - 1) + e .column
+unfolding number
+horizontal-number size e f = rw f (omega arith)
+
+pub horizontal-fits : (size : Size) → Sized size → kindStart size true ≤ places
+horizontal-fits size sized =
+    mul-le-mul {n₁ = size .height} {m₁ = size .width - 1} {n₂ = 1024} {m₂ = 1023} (omega (arith, sized)) (omega (arith, sized))
+
+pub mark-vertical : (size : Size) (t : List ℕ) (e : Edge) → e .vertical ≡ true → markEdge size t e ≡ t
+mark-vertical size t e v = ap (λ (b : Bool). cond b t (with t (number size e))) v
+
+pub mark-horizontal : (size : Size) (t : List ℕ) (e : Edge) → e .vertical ≡ false → markEdge size t e ≡ with t (number size e)
+mark-horizontal size t e f = ap (λ (b : Bool). cond b t (with t (number size e))) f
+
+-- what every store to the set keeps: its length, and that nothing past the horizontal edges is in it
+abbrev pub Kept : Layer → List ℕ → Type 0
+Kept L t = (length t ≡ words) × ((k : ℕ) → kindStart (L .size) true ≤ k → has t k ≡ false)
+
+module _ (L : Layer) (sound : Sound L) where
+  pub place-below : (e : Edge) → isStick L e ≡ true → e .vertical ≡ false → number (L .size) e < places
+  place-below e h f = omega (arith, horizontal-low L sound e h f, horizontal-fits (L .size) (sound .whole .sized))
+
+  -- Marking a contour
+
+  mark-kept : (t : List ℕ) (e : Edge) → Kept L t → isStick L e ≡ true → Kept L (markEdge (L .size) t e)
+  mark-kept t e kept h = both-sides (e .vertical) (λ v. rw (mark-vertical (L .size) t e v) kept) (λ f. rw (mark-horizontal (L .size) t e f) (
+    length-with t n (kept .0) (place-below e h f),
+    λ k l. has-with-other t n (kept .0) (place-below e h f) k (other k l f) ∙ kept .1 k l,
+  ))
+    where
+      n : ℕ
+      n = number (L .size) e
+
+      other : (k : ℕ) → kindStart (L .size) true ≤ k → e .vertical ≡ false → k ≢ number (L .size) e
+      other k l f q = omega (arith, horizontal-low L sound e h f)
+
+  mark-own : (t : List ℕ) (e : Edge) → Kept L t → isStick L e ≡ true → horizontal e ≡ true
+      → has (markEdge (L .size) t e) (number (L .size) e) ≡ true
+  mark-own t e kept h c = both-sides (e .vertical)
+      (λ v. absurd (false≢true (sym (ap not v) ∙ c)))
+      (λ f. rw (mark-horizontal (L .size) t e f) (has-with t (number (L .size) e) (kept .0) (place-below e h f)))
+
+  mark-other : (t : List ℕ) (e : Edge) (k : ℕ) → Kept L t → isStick L e ≡ true → k ≢ number (L .size) e
+      → has (markEdge (L .size) t e) k ≡ has t k
+  mark-other t e k kept h n = both-sides (e .vertical)
+      (λ v. rw (mark-vertical (L .size) t e v))
+      (λ f. rw (mark-horizontal (L .size) t e f) (has-with-other t (number (L .size) e) (kept .0) (place-below e h f) k n))
+
+  pub marks : Marks (walkOf L) horizontal (Kept L) has (markEdge (L .size))
+  marks = record { stays = mark-kept; own = mark-own; other = mark-other }
+
+  pub length-mark : (t : List ℕ) (e : Edge) → length t ≡ words → isStick L e ≡ true → length (markEdge (L .size) t e) ≡ words
+  length-mark t e sized h = both-sides (e .vertical)
+      (λ v. rw (mark-vertical (L .size) t e v) sized)
+      (λ f. rw (mark-horizontal (L .size) t e f) (length-with t (number (L .size) e) sized (place-below e h f)))
+
+  -- One step of the scan, at the stick e
+
+  module _ (e : Edge) (stick : isStick L e ≡ true) (f : e .vertical ≡ false) (p : ℕ) (is-p : p ≡ number (L .size) e) (t : List ℕ) (scanned : Scanned L p t) where
+    at-p : edgeAt (L .size) p ≡ e
+    at-p = ap (edgeAt (L .size)) is-p ∙ laws L sound .at-number e stick
+
+    less : p < edgeCount (L .size)
+    less = rw is-p (laws L sound .number-less e stick)
+
+    fits : p < places
+    fits = rw is-p (place-below e stick f)
+
+    carried : horizontal (edgeAt (L .size) p) ≡ true
+    carried = ap horizontal at-p ∙ ap not f
+
+    -- its bit is set: it is cleared
+    pub scan-set : has t p ≡ true → Scanned L (p + 1) (without t p)
+    scan-set h = record {
+      sized = length-without t p (scanned .sized) fits;
+      marked =
+          mark-passed (walkOf L) (laws L sound) horizontal p (has t) less (scanned .marked) (has (without t p))
+          (mark-set (walkOf L) (laws L sound) horizontal p (has t) less (scanned .marked) carried h)
+          (λ c. has-without t p (scanned .sized) fits h)
+          (λ k b c n. has-without-other t p (scanned .sized) fits k n);
+      above = λ k l. has-without-other t p (scanned .sized) fits k (omega (arith, horizontal-low L sound e stick f)) ∙ scanned .above k l;
+    }
+
+    -- its bit is clear: its contour is marked
+    pub scan-clear : has t p ≡ false → Scanned L (p + 1) (foldl (markEdge (L .size)) t (contourOf L e))
+    scan-clear h =
+        let law = laws L sound in
+        let is-first = mark-clear (walkOf L) law horizontal p (has t) less (scanned .marked) carried (ap (isStick L) at-p ∙ stick) h in
+        let kept : Kept L (foldl (markEdge (L .size)) t (contourOf L e)) =
+        bits-ok (walkOf L) law horizontal marks (contourOf L e) t (λ y o. on-one (walkOf L) law e y stick o) (scanned .sized, scanned .above) in
+        record {
+          sized = kept .0;
+          marked = rw at-p at (mark-contour (walkOf L) law horizontal marks p t less (scanned .sized, scanned .above) is-first (scanned .marked));
+          above = kept .1;
+        }
+
+  -- Where no stick is, the scan goes on with nothing done
+
+  pub same-place : {p q : ℕ} {t : List ℕ} → p ≡ q → Scanned L p t → Scanned L q t
+  same-place {p} {q} {t} e s = subst (λ (k : ℕ). Scanned L k t) e s
+
+  edge-at : (c r : ℕ) → c < L .size .width - 1 → r < L .size .height
+      → edgeAt (L .size) (r * (L .size .width - 1) + c) ≡ record { vertical = false; column = c; row = r }
+  edge-at c r hc hr =
+      let e : Edge = record { vertical = false; column = c; row = r } in
+      let within = in-grid (L .size) e (record { column-below = hc; row-below = hr }) in
+      sym (ap (edgeAt (L .size)) (horizontal-number (L .size) e refl)) ∙ edgeAt-number (L .size) (sound .whole .sized) e within
+
+  -- from column c of a row to column d, where the row has W - 1 edges
+  pub scan-skip : (r c d : ℕ) (t : List ℕ) → r < L .size .height → c ≤ d
+      → ((k : ℕ) → c ≤ k → k < d → isStick L (record { vertical = false; column = k; row = r }) ≡ false)
+      → Scanned L (r * (L .size .width - 1) + min c (L .size .width - 1)) t
+      → Scanned L (r * (L .size .width - 1) + min d (L .size .width - 1)) t
+  scan-skip r c d t hr l none s =
+      record {
+        sized = s .sized;
+        marked =
+            mark-skip (walkOf L) (laws L sound) horizontal (base + min c m) (base + min d m) (has t) (omega arith)
+            (omega (arith, rows, kind-below (L .size) (sound .whole .sized) false)) clear (s .marked);
+        above = s .above;
+      }
+    where
+      m : ℕ
+      m = L .size .width - 1
+
+      base : ℕ
+      base = r * (L .size .width - 1)
+
+      rows : (r + 1) * (L .size .width - 1) ≤ L .size .height * (L .size .width - 1)
+      rows = mul-le-mul {n₁ = r + 1} {m₁ = L .size .width - 1} {n₂ = L .size .height} {m₂ = L .size .width - 1} (omega arith) (omega arith)
+
+      clear : (j : ℕ) → base + min c m ≤ j → j < base + min d m → isStick L (edgeAt (L .size) j) ≡ false
+      clear j a b =
+          let k : ℕ = j - base in
+          let e : base + k ≡ j = omega arith in
+          rw e at (ap (isStick L) (edge-at k r (omega arith) hr) ∙ none k (omega arith) (omega arith))
+
+  pub stick-place : (c r : ℕ) → isStick L (record { vertical = false; column = c; row = r }) ≡ true → r * (L .size .width - 1) + c < places
+  stick-place c r h =
+      let e : Edge = record { vertical = false; column = c; row = r } in
+      rw (horizontal-number (L .size) e refl) at (place-below e h refl)
+
+  -- The scan starts with an empty set,
+
+  pub scan-start : (t : List ℕ) → Empty t → Scanned L 0 t
+  scan-start t empty = record {
+    sized = empty .sized;
+    marked = mark-start (walkOf L) (laws L sound) horizontal (has t) (λ k b c. clear k);
+    above = λ k l. clear k;
+  }
+    where
+      clear : (k : ℕ) → has t k ≡ false
+      clear k = elim (decLt k places) [
+        | yes l ↦ has-none t empty k l
+        | no g ↦ has-past t (empty .sized) k (omega arith)
+      ]
+
+  -- and ends with that of the first sticks.
+
+  at-horizontal : (n : ℕ) → n < kindStart (L .size) true → edgeAt (L .size) n .vertical ≡ false
+  unfolding edgeAt
+  at-horizontal n l = rw (lt-ltb n (kindStart (L .size) true) l)
+
+  at-vertical : (n : ℕ) → kindStart (L .size) true ≤ n → edgeAt (L .size) n .vertical ≡ true
+  unfolding edgeAt
+  at-vertical n l = rw (le-ltb n (kindStart (L .size) true) l)
+
+  pub first-low-number : (n : ℕ) → first (walkOf L) (edgeAt (L .size) n) ≡ true → n < kindStart (L .size) true
+  first-low-number n f = elim (decLt n (kindStart (L .size) true)) [
+    | yes l ↦ l
+    | no g ↦ absurd (true≢false (sym (at-vertical n (omega arith)) ∙ first-horizontal L sound (edgeAt (L .size) n) f))
+  ]
+
+  pub scan-end : (t : List ℕ) → Scanned L (kindStart (L .size) true) t → FirstSet L t
+  scan-end t s = record { sized = s .sized; says = says }
+    where
+      unfirst : (n : ℕ) → kindStart (L .size) true ≤ n → first (walkOf L) (edgeAt (L .size) n) ≡ false
+      unfirst n l = both-sides (first (walkOf L) (edgeAt (L .size) n))
+          (λ f. absurd (omega (arith, first-low-number n f)))
+          (λ f. f)
+
+      says : (n : ℕ) → has t n ≡ first (walkOf L) (edgeAt (L .size) n)
+      says n = elim (decLt n (kindStart (L .size) true)) [
+        | yes l ↦
+            s .marked .below n l (omega (arith, kind-below (L .size) (sound .whole .sized) false)) (ap not (at-horizontal n l))
+        | no g ↦ s .above n (omega arith) ∙ sym (unfirst n (omega arith))
+      ]

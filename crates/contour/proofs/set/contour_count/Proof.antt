@@ -1,0 +1,75 @@
+-- `contour_count` meets its contract. The invariant: the sum is how many numbers below 64 × word are in the set.
+use mathlib.Core.Path.{_≡_, refl, ap, _∙_}
+use Prim.Native.Nat.{ℕ, _-_, _*_, _≤_}
+use native.Mathlib.Omega.{arith}
+use borrow.Author.Needs.{needs}
+use lib.ListN.{getD}
+use Rattle.arith.specs.Ranges.{count, count-le}
+use Rattle.grid.specs.Layer.{bit}
+use Rattle.contour.specs.Sets.{has}
+use Rattle.contour.proofs.Sets.{count-word}
+use Rattle.contour.proofs.set.contour_count.Statement.{statement}
+use Rattle.contour.proofs.set.contour_count.Tie as tie
+
+abbrev Inv-loop : tie.InvT-loop
+Inv-loop set sum₀ word₀ sum word = (word ≤ 16368) × (sum ≡ count (has set) (64 * word))
+
+abbrev μ-loop : tie.MeasureT-loop
+μ-loop set sum₀ word₀ sum word = 16368 - word
+
+loop-holds : tie.Need-loop-holds Inv-loop μ-loop
+unfolding count
+loop-holds c = (search needs, refl)
+
+mul-ones-in : tie.Need-mul-ones-in Inv-loop μ-loop
+mul-ones-in c = search needs
+
+element-copy-out-ones-in : tie.Need-element-copy-out-ones-in Inv-loop μ-loop
+element-copy-out-ones-in c = search needs
+
+ones-in-requires : tie.Need-ones-in-requires Inv-loop μ-loop
+ones-in-requires c κs = search needs
+
+add-sum : tie.Need-add-sum Inv-loop μ-loop
+add-sum c =
+    let t = c .before .before .before .before .args .set .now in
+    let i = c .before .before .before .loop .word in
+    let here = c .before .before .before .loop .inv .1 in
+    let more = c .ones-in .ensures in
+    omega (arith, here, more, count-le (has t) (64 * i), count-le (bit (getD t i 0)) 64)
+
+add-word : tie.Need-add-word Inv-loop μ-loop
+add-word c = search needs
+
+loop-less : tie.Need-loop-less Inv-loop μ-loop
+loop-less c = search needs
+
+loop-again : tie.Need-loop-again Inv-loop μ-loop
+loop-again c =
+    let t = c .before .before .before .before .args .set .now in
+    let i = c .before .before .before .loop .word in
+    let here = c .before .before .before .loop .inv .1 in
+    let more = c .ones-in .ensures in
+    (search needs, omega (arith, here, more, count-word t i))
+
+returns : tie.Need-returns Inv-loop μ-loop
+returns c =
+    let t = c .before .before .args .set .now in
+    let end : c .before .loop .word ≡ 16368 = omega arith in
+    c .before .loop .inv .1 ∙ ap (λ (i : ℕ). count (has t) (64 * i)) end
+
+pub contour-count-spec : {M : Type 1} → statement M
+contour-count-spec =
+    tie.close
+    (tie.spec
+    Inv-loop
+    μ-loop
+    loop-holds
+    mul-ones-in
+    element-copy-out-ones-in
+    ones-in-requires
+    add-sum
+    add-word
+    loop-less
+    loop-again
+    returns)

@@ -1,0 +1,39 @@
+-- How the scan for first sticks changes the set, and what it keeps true.
+use mathlib.Core.Path.{_≡_}
+use mathlib.Core.Bool.{Bool, true, false, cond, not}
+use mathlib.Core.List.{List}
+use Prim.Native.Nat.{ℕ, _/_, _%_, _^_, _≤_, _<_}
+use lib.Bits.{bitOr, bitXor}
+use lib.ListN.{length, getD, set}
+use Rattle.grid.specs.Layer.{Layer}
+use Rattle.grid.specs.Edges.{number, kindStart}
+use Rattle.grid.specs.declared.layer.Size.{Size}
+use Rattle.grid.specs.declared.edge.Edge.{Edge}
+use Rattle.contour.specs.Walk.{Walk, first, seen}
+use Rattle.contour.specs.Contours.{walkOf}
+use Rattle.contour.specs.Sets.{words, has}
+
+-- the set with n in it, and, where n is in it, without
+unfoldable pub with : List ℕ → ℕ → List ℕ
+with t n = set t (n / 64) (bitOr (getD t (n / 64) 0) (2 ^ (n % 64)))
+
+unfoldable pub without : List ℕ → ℕ → List ℕ
+without t n = set t (n / 64) (bitXor (getD t (n / 64) 0) (2 ^ (n % 64)))
+
+-- the bit of a stick is set as the walk passes it; vertical sticks have none
+abbrev pub markEdge : Size → List ℕ → Edge → List ℕ
+markEdge size t e = cond (e .vertical) t (with t (number size e))
+
+abbrev pub horizontal : Edge → Bool
+horizontal e = not (e .vertical)
+
+-- The scan stands at p: below p a bit says that the element is first, from p on that it counts and its contour begins below p.
+pub record Marked (w : Walk) (carries : w .Element → Bool) (p : ℕ) (bitAt : ℕ → Bool) : Type 0 where
+  pub below : (k : ℕ) → k < p → k < w .many → carries (w .at k) ≡ true → bitAt k ≡ first w (w .at k)
+  pub from : (k : ℕ) → p ≤ k → k < w .many → carries (w .at k) ≡ true → bitAt k ≡ seen w p (w .at k)
+
+-- what holds of the set while the scan stands at edge number p
+pub record Scanned (L : Layer) (p : ℕ) (t : List ℕ) : Type 0 where
+  pub sized : length t ≡ words
+  pub marked : Marked (walkOf L) horizontal p (has t)
+  pub above : (k : ℕ) → kindStart (L .size) true ≤ k → has t k ≡ false

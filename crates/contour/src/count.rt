@@ -1,0 +1,17 @@
+// How many contours a layer has.
+use super::scan::first_sticks;
+use super::set::contour_count;
+use grid::Size;
+ghost use mathlib.Core.Path.{_≡_};
+ghost use Rattle.grid.specs.Layer.{layerOf};
+ghost use Rattle.grid.specs.Questions.{Sound};
+ghost use Rattle.contour.specs.Contours.{contourCount};
+
+pub fn count_contours(size: Size, bitmap: &[u8]) -> usize
+    requires { ⌜ Sound (layerOf size (now bitmap)) ⌝ }
+    ensures { λ r. ⌜ r ≡ contourCount (layerOf size (now (bitmap .entry))) ⌝ }
+{
+    let mut set: [u64; 16368] = [0; 16368];
+    first_sticks(size, bitmap, &mut set);
+    contour_count(&set)
+}

@@ -1,0 +1,11 @@
+// Contours: the set of their first sticks in linear time, the next first stick from a place on, and how many there are.
+mod count;
+mod edge;
+mod scan;
+mod set;
+
+pub use count::count_contours;
+pub use edge::same_edge;
+pub use scan::first_sticks;
+pub use set::contour_count;
+pub use set::next_first;

@@ -1,0 +1,104 @@
+// A set of edge numbers with one bit for each, in words of 64. Its size is that of a layer with 1,024 columns and rows: as many bits as
+// there are horizontal edges.
+ghost use mathlib.Core.Path.{_≡_};
+ghost use Prim.Native.Nat.{_-_, _≤_, _<_};
+ghost use lib.ListN.{length};
+ghost use Rattle.arith.specs.Ranges.{count, least, leastFrom};
+ghost use Rattle.grid.specs.Layer.{bit};
+ghost use Rattle.contour.specs.Sets.{words, places, has, nextIn, sizeOf};
+ghost use Rattle.contour.specs.Marking.{with, without};
+
+pub fn contains(set: &[u64; 16368], n: usize) -> bool
+    requires { ⌜ length (now set) ≡ words ⌝ }
+    requires { ⌜ n < places ⌝ }
+    ensures { λ r. ⌜ r ≡ has (now (set .entry)) n ⌝ }
+{
+    let word = n / 64;
+    (set[word] >> (n % 64)) % 2 == 1
+}
+
+pub fn insert(set: &mut [u64; 16368], n: usize)
+    requires { ⌜ length (now set) ≡ words ⌝ }
+    requires { ⌜ n < places ⌝ }
+    ensures { λ r. ⌜ now (set .exit) ≡ with (now (set .entry)) n ⌝ }
+{
+    let word = n / 64;
+    set[word] = set[word] | (1 << (n % 64));
+}
+
+// Takes a number out that is in the set.
+pub fn remove(set: &mut [u64; 16368], n: usize)
+    requires { ⌜ length (now set) ≡ words ⌝ }
+    requires { ⌜ n < places ⌝ }
+    ensures { λ r. ⌜ now (set .exit) ≡ without (now (set .entry)) n ⌝ }
+{
+    let word = n / 64;
+    set[word] = set[word] ^ (1 << (n % 64));
+}
+
+// The lowest bit of a word that is set.
+pub fn lowest_bit(x: u64) -> usize
+    requires { ⌜ (x ≡ 0 → ⊥) ⌝ }
+    ensures { λ r. ⌜ r ≡ least (bit x) 64 ⌝ }
+    ensures { λ r. ⌜ r < 64 ⌝ }
+{
+    u64::trailing_zeros(x) as usize
+}
+
+// The lowest bit of a word from bit s on that is set, or 64 if there is none.
+fn lowest_from(x: u64, s: usize) -> usize
+    requires { ⌜ s < 64 ⌝ }
+    ensures { λ r. ⌜ r ≡ leastFrom (bit x) s (64 - s) ⌝ }
+{
+    let left = x >> s;
+    if left == 0 {
+        return 64;
+    }
+    s + lowest_bit(left)
+}
+
+// How many bits of a word are set.
+fn ones_in(x: u64) -> usize
+    ensures { λ r. ⌜ r ≡ count (bit x) 64 ⌝ }
+{
+    u64::count_ones(x) as usize
+}
+
+// The least number of the set from `from` on, or 1,047,552 if there is none.
+pub fn next_first(set: &[u64; 16368], from: usize) -> usize
+    requires { ⌜ length (now set) ≡ words ⌝ }
+    requires { ⌜ from ≤ places ⌝ }
+    ensures { λ r. ⌜ r ≡ nextIn (now (set .entry)) from ⌝ }
+{
+    let mut word = from / 64;
+    if word == 16368 {
+        return from;
+    }
+    let low = lowest_from(set[word], from % 64);
+    if low < 64 {
+        return 64 * word + low;
+    }
+    word += 1;
+    while word < 16368 {
+        let x = set[word];
+        if x != 0 {
+            return 64 * word + lowest_bit(x);
+        }
+        word += 1;
+    }
+    1047552
+}
+
+// How many numbers the set has.
+pub fn contour_count(set: &[u64; 16368]) -> usize
+    requires { ⌜ length (now set) ≡ words ⌝ }
+    ensures { λ r. ⌜ r ≡ sizeOf (now (set .entry)) ⌝ }
+{
+    let mut sum: usize = 0;
+    let mut word = 0;
+    while word < 16368 {
+        sum += ones_in(set[word]);
+        word += 1;
+    }
+    sum
+}
