@@ -14,6 +14,10 @@ pub record Layer : Type 0 where
 abbrev pub layerOf : Size → List ℕ → Layer
 layerOf size bitmap = record { size = size; bitmap = bitmap }
 
+-- the sides that a call is given
+abbrev pub sizeOf : ℕ → ℕ → Size
+sizeOf w h = record { width = w; height = h }
+
 -- "The bitmap has ceil(W/8) bytes a row"
 abbrev pub stride : Size → ℕ
 stride size = (size .width + 7) / 8

@@ -1,2 +1,3 @@
--- What the promise of Trace says.
+-- What the promises of Trace and Counts say.
 pub mod Trace
+pub mod Counts

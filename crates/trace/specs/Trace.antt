@@ -7,14 +7,9 @@ use Rattle.arith.specs.Ranges.{tabulate}
 use Rattle.grid.specs.Layer.{Layer, bit}
 use Rattle.grid.specs.Edges.{edgeCount, stickAt}
 use Rattle.grid.specs.Questions.{firstNo, ifAllYes, numberOf}
-use Rattle.grid.specs.declared.layer.Size.{Size}
 use Rattle.table.specs.Entries.{lengthQuestions}
-use Rattle.trace.specs.declared.Traced.{Traced}
-use Rattle.trace.specs.declared.Traced.the-variants.{Done, Refused}
-
--- the sides that a call is given
-abbrev pub sizeOf : ℕ → ℕ → Size
-sizeOf w h = record { width = w; height = h }
+use Rattle.trace.specs.declared.tracing.Traced.{Traced}
+use Rattle.trace.specs.declared.tracing.Traced.the-variants.{Done, Refused}
 
 -- the entry of edge k
 abbrev pub tracedEntry : Layer → ℕ → ℕ

@@ -5,16 +5,16 @@ use Prim.Native.Nat.{ℕ}
 use borrow.Author.Needs.{needs}
 use lib.ListN.{length}
 use Rattle.arith.specs.Ranges.{tabulate, fill-all}
-use Rattle.grid.specs.Layer.{Layer, layerOf}
+use Rattle.grid.specs.Layer.{Layer, layerOf, sizeOf}
 use Rattle.grid.specs.Edges.{edgeCount}
 use Rattle.grid.specs.Questions.{firstNo, ifAllYes, numberOf}
 use Rattle.grid.specs.declared.question.Answer.{Answer}
 use Rattle.grid.specs.declared.question.Answer.the-variants.{Yes, No}
 use Rattle.table.specs.Entries.{lengthQuestions}
-use Rattle.trace.specs.Trace.{sizeOf, tracedEntry, Outcome, traceOf}
+use Rattle.trace.specs.Trace.{tracedEntry, Outcome, traceOf}
 use Rattle.table.proofs.Lengths.{lengths-of}
-use Rattle.trace.proofs.trace.Statement.{statement}
-use Rattle.trace.proofs.trace.Tie as tie
+use Rattle.trace.proofs.tracing.trace.Statement.{statement}
+use Rattle.trace.proofs.tracing.trace.Tie as tie
 
 ask-lengths-requires : tie.Need-ask-lengths-requires
 ask-lengths-requires c κs = search needs

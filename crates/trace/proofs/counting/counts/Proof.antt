@@ -1,0 +1,91 @@
+-- `counts` meets its contract.
+use mathlib.Core.Path.{_≡_, refl, ap, sym, _∙_}
+use Prim.Native.Nat.{ℕ}
+use borrow.Author.Needs.{needs}
+use lib.ListN.{length}
+use Rattle.grid.specs.Layer.{Layer, layerOf, sizeOf}
+use Rattle.grid.specs.Counts.{insideCount, stickCount}
+use Rattle.grid.specs.Questions.{firstNo, ifAllYes, numberOf}
+use Rattle.grid.specs.declared.question.Answer.{Answer}
+use Rattle.grid.specs.declared.question.Answer.the-variants.{Yes, No}
+use Rattle.contour.specs.Contours.{contourCount}
+use Rattle.table.specs.Entries.{lengthQuestions}
+use Rattle.trace.specs.Counts.{Figures, countsOf}
+use Rattle.table.proofs.Lengths.{lengths-of}
+use Rattle.trace.proofs.counting.counts.Statement.{statement}
+use Rattle.trace.proofs.counting.counts.Tie as tie
+
+ask-lengths-requires : tie.Need-ask-lengths-requires
+ask-lengths-requires c κs = search needs
+
+enum-told : tie.Need-enum-told
+enum-told c = search needs
+
+inside-count-requires : tie.Need-inside-count-requires
+inside-count-requires c κs =
+    let a = c .before .before .before .before .before .args in
+    let n = length (a .table .now) in
+    let L = layerOf (sizeOf (a .w) (a .h)) (a .bitmap .now) in
+    lengths-of L n (sym (c .before .before .ask-lengths .ensures) ∙ c .enum-told .given .1) .0
+
+stick-count-requires : tie.Need-stick-count-requires
+stick-count-requires c κs =
+    let a = c .before .before .before .before .before .before .args in
+    let n = length (a .table .now) in
+    let L = layerOf (sizeOf (a .w) (a .h)) (a .bitmap .now) in
+    lengths-of L n (sym (c .before .before .before .ask-lengths .ensures) ∙ c .before .enum-told .given .1) .0
+
+count-contours-requires : tie.Need-count-contours-requires
+count-contours-requires c κs =
+    let a = c .before .before .before .before .before .before .before .args in
+    let n = length (a .table .now) in
+    let L = layerOf (sizeOf (a .w) (a .h)) (a .bitmap .now) in
+    lengths-of L n (sym (c .before .before .before .before .ask-lengths .ensures) ∙ c .before .before .enum-told .given .1) .0
+
+enum-known-answer : tie.Need-enum-known-answer
+enum-known-answer c = search needs
+
+figures-are : (L : Layer) (n : ℕ) (answer : Answer) → firstNo (lengthQuestions L n) ≡ answer
+    → countsOf L n
+    ≡ ifAllYes answer
+    (λ q place. record { refusal = numberOf q; place = place; inside = 0; sticks = 0; contours = 0 })
+    (record { refusal = 0; place = 0; inside = insideCount L; sticks = stickCount L; contours = contourCount L })
+unfolding countsOf
+figures-are L n answer e =
+    ap (λ (x : Answer). ifAllYes {A = Figures} x
+    (λ q place. record { refusal = numberOf q; place = place; inside = 0; sticks = 0; contours = 0 })
+    (record { refusal = 0; place = 0; inside = insideCount L; sticks = stickCount L; contours = contourCount L })) e
+
+returns : tie.Need-returns
+returns c =
+    let a = c .before .before .before .before .before .before .before .before .args in
+    let n = length (a .table .now) in
+    let L = layerOf (sizeOf (a .w) (a .h)) (a .bitmap .now) in
+    (λ i. record {
+      refusal = 0;
+      place = 0;
+      inside = c .before .before .inside-count .ensures i;
+      sticks = c .before .stick-count .ensures i;
+      contours = c .count-contours .ensures i;
+    })
+    ∙ sym (figures-are L n Yes (sym (c .before .before .before .before .before .ask-lengths .ensures) ∙ c .before .before .before .enum-told .given .1))
+
+returns-2 : tie.Need-returns-2
+returns-2 c =
+    let a = c .before .before .before .before .before .before .args in
+    let n = length (a .table .now) in
+    let L = layerOf (sizeOf (a .w) (a .h)) (a .bitmap .now) in
+    sym (figures-are L n (No (c .before .answer .given .0 .0) (c .before .answer .given .0 .1 .0)) (sym (c .before .before .before .ask-lengths .ensures) ∙ c .before .answer .given .1))
+
+pub counts-spec : {M : Type 1} → statement M
+counts-spec =
+    tie.close
+    (tie.spec
+    ask-lengths-requires
+    enum-told
+    inside-count-requires
+    stick-count-requires
+    count-contours-requires
+    enum-known-answer
+    returns
+    returns-2)
