@@ -35,8 +35,8 @@ use std::process::ExitCode;
 
 use script::Command;
 
-const USAGE: &str = "usage: reference make NAME | random NAME SEED | answer | show | test [SEED]
-  make    writes the script of the set NAME
+const USAGE: &str = "usage: reference make NAME.. | random NAME SEED | answer | show | test [SEED]
+  make    writes the script of the sets NAME.., one after the other
   random  writes the same set made from another seed
   answer  reads a script and writes the answers to its calls
   show    reads a script and prints it for a person
@@ -64,7 +64,7 @@ fn seed(word: &str) -> Result<u64, Failure> {
 
 fn run(words: &[&str]) -> Result<Vec<u8>, Failure> {
     match words {
-        ["make", name] => sets::script(name, None).ok_or(Failure::Usage),
+        ["make", names @ ..] => sets::joined(names).ok_or(Failure::Usage),
         ["random", name, word] => sets::script(name, Some(seed(word)?)).ok_or(Failure::Usage),
         ["answer"] => Ok(machine::answers(&read_script()?).into_bytes()),
         ["show"] => Ok(show::show(&read_script()?).into_bytes()),

@@ -67,3 +67,17 @@ pub fn script(name: &str, seed: Option<u64>) -> Option<Vec<u8>> {
     (set.fill)(&mut builder);
     Some(builder.finish())
 }
+
+/// One script of the sets with these names: each without its end, and an end after
+/// the last.
+pub fn joined(names: &[&str]) -> Option<Vec<u8>> {
+    let mut all = Vec::new();
+    for name in names {
+        all.pop();
+        all.extend(script(name, None)?);
+    }
+    if all.is_empty() {
+        return None;
+    }
+    Some(all)
+}

@@ -1,0 +1,3 @@
+-- Laws that belong to no one function:
+-- bounds on what the program writes.
+mod Bounds

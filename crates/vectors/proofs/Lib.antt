@@ -1,0 +1,3 @@
+-- Laws that belong to no one function:
+-- how a digest takes in a list.
+mod Mixing

@@ -1,0 +1,3 @@
+-- What the contracts of this crate cite:
+-- the digest of a table.
+pub mod Digest

@@ -1,0 +1,86 @@
+// The calls of the library that a script makes: T is Trace, N is Counts. A call is an arm of `call` and a function that reads its fields,
+// makes it and gives its answer.
+use super::command::State;
+use super::command::read_to;
+use super::digest::digest_of;
+use super::line;
+use super::line::Answer;
+use super::reader;
+use super::reader::Reader;
+use trace::Counted;
+use trace::Traced;
+
+// The answer to a call, and where reading stands after its fields.
+pub struct Called {
+    pub answer: Answer,
+    pub next: Reader,
+}
+
+// Makes a call on the bytes and entries in use, and prints its answer, unless the script is wrong there.
+pub fn answer_call(
+    letter: u8,
+    input: &mut [u8],
+    bitmap: &[u8],
+    table: &mut [u16],
+    state: State,
+) -> State {
+    let bytes = state.bytes;
+    let entries = state.entries;
+    if bytes > bitmap.len() {
+        return read_to(state, reader::failed());
+    }
+    if entries > table.len() {
+        return read_to(state, reader::failed());
+    }
+    let called = call(
+        letter,
+        input,
+        &bitmap[0..bytes],
+        &mut table[0..entries],
+        state,
+    );
+    let next = called.next;
+    if next.good {
+        line::print(letter, called.answer, digest_of(&table[0..entries]));
+    }
+    read_to(state, next)
+}
+
+fn call(letter: u8, input: &mut [u8], bitmap: &[u8], table: &mut [u16], state: State) -> Called {
+    match letter {
+        b'T' => trace_call(bitmap, table, state),
+        b'N' => counts_call(bitmap, table, state),
+        _ => unknown_call(),
+    }
+}
+
+fn unknown_call() -> Called {
+    Called {
+        answer: line::done([0u64; 4], 0),
+        next: reader::failed(),
+    }
+}
+
+fn trace_call(bitmap: &[u8], table: &mut [u16], state: State) -> Called {
+    let traced = trace::trace(state.w, state.h, bitmap, table);
+    let answer = match traced {
+        Traced::Done => line::done([0u64; 4], 0),
+        Traced::Refused(question, place) => line::refused(question, place, 0),
+    };
+    let next = state.reader;
+    Called { answer, next }
+}
+
+fn counts_call(bitmap: &[u8], table: &[u16], state: State) -> Called {
+    let counted = trace::counts(state.w, state.h, bitmap, table);
+    let answer = match counted {
+        Counted::Done {
+            inside,
+            sticks,
+            contours,
+        } => line::done([inside as u64, sticks as u64, contours as u64, 0], 3),
+        Counted::Refused(question, place) => line::refused(question, place, 3),
+    };
+    let next = state.reader;
+    Called { answer, next }
+}

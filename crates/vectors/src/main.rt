@@ -1,0 +1,42 @@
+// A program that reads a script of commands from standard input, carries them out, and prints a line for each call of the
+// library, so that its answers can be compared with those of another program. A script that is wrong ends with a line '?'.
+mod call;
+mod command;
+mod digest;
+mod line;
+mod reader;
+
+use libc::STDOUT_FILENO;
+
+// The longest bitmap and table that a script may set, and how many bytes of the script are read at a time.
+const BITMAP_LIMIT: usize = 131200;
+
+const TABLE_LIMIT: usize = 2095200;
+
+const INPUT_LIMIT: usize = 65536;
+
+// More commands than any script has.
+const COMMAND_LIMIT: u32 = 1000000;
+
+// Carries out the commands of a script up to its end, and answers true, or up to one that is wrong, and answers false.
+fn run(input: &mut [u8], bitmap: &mut [u8], table: &mut [u16]) -> bool {
+    let mut state = command::start();
+    let mut left = COMMAND_LIMIT;
+    while left > 0 {
+        state = command::turn(input, bitmap, table, state);
+        if command::is_over(state) {
+            return state.ended;
+        }
+        left -= 1;
+    }
+    false
+}
+
+fn main() {
+    let mut input = [0u8; INPUT_LIMIT];
+    let mut bitmap = [0u8; BITMAP_LIMIT];
+    let mut table = [0u16; TABLE_LIMIT];
+    if !run(&mut input, &mut bitmap, &mut table) {
+        io::write_all(STDOUT_FILENO, b"?\n");
+    }
+}
