@@ -125,9 +125,18 @@ pub fn trace(b: &mut Builder) {
     trace_or_counts(b, &plain(Command::Trace));
 }
 
-/// Counts: B, M, P and N only.
+/// Counts: B, M, P and N only; as the largest layers also the one with the longest
+/// contour and the one with the most contours.
 pub fn counts(b: &mut Builder) {
-    trace_or_counts(b, &plain(Command::Counts));
+    let call = &plain(Command::Counts);
+    trace_or_counts(b, call);
+    for layer in [
+        picture::serpentine(1024, 1024),
+        picture::checkerboard(1024, 1024, 0),
+    ] {
+        b.layer(&layer);
+        call(b);
+    }
 }
 
 /// A sample on the grid, at its edge or off it, of whatever layer is set.

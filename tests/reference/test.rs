@@ -310,7 +310,7 @@ fn wanted_numbers(name: &str) -> Vec<u64> {
     }
 }
 
-/// Each set is a good script below 400 KB with its refusals in it; cut short or
+/// Each set is a good script below 500 KB with its refusals in it; cut short or
 /// with a byte more it is no script.
 fn sets(wrong: &mut Wrong, seed: Option<u64>) {
     for set in &SETS {
@@ -320,7 +320,7 @@ fn sets(wrong: &mut Wrong, seed: Option<u64>) {
             .iter()
             .flat_map(|command| command.bytes())
             .collect();
-        let whole = bytes.len() < 400_000 && encoded == bytes[..bytes.len() - 1];
+        let whole = bytes.len() < 500_000 && encoded == bytes[..bytes.len() - 1];
         expect(wrong, whole, || format!("bytes of the set {}", set.name));
         let damaged = parse(&bytes[..bytes.len() - 1]).is_err()
             && parse(&[&bytes[..], &[0]].concat()).is_err();
