@@ -1,0 +1,1 @@
+-- The laws that question 7 and the theorem rest on.

@@ -1,0 +1,2 @@
+-- Question 7, and what a held layer is shown to be.
+pub mod Held
