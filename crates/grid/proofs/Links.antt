@@ -5,7 +5,7 @@ use Prim.Native.Nat.{ℕ, _<_}
 use native.Mathlib.Omega.{arith}
 use lib.Dec.{T, eqb, eqb→eq}
 use Rattle.arith.specs.Booleans.{one-le, all, at-all, and-T, beq→eq, implied}
-use Rattle.grid.specs.Cells.{Corners, cut, diagonal, partner, index, sideIndex, sideAt}
+use Rattle.grid.specs.Cells.{Corners, cut, diagonal, partner, index, sideIndex, sideAt, linkedTo}
 use Rattle.grid.specs.declared.cell.Side.{Side}
 use Rattle.grid.specs.declared.cell.Side.the-variants.{South, East, North, West}
 
@@ -47,6 +47,11 @@ sameSide s t = eqb (sideIndex s) (sideIndex t)
 
 pub same-side : (s t : Side) → T (sameSide s t) → s ≡ t
 same-side s t h = sym (sideAt-index s) ∙ ap sideAt (eqb→eq (sideIndex s) (sideIndex t) h) ∙ sideAt-index t
+
+-- the constant table is the rule
+pub links-rule : (k : Corners) (s : Side) → linkedTo k s ≡ partner k s
+unfolding xor
+links-rule k s = same-side (linkedTo k s) (partner k s) (at (λ k s. sameSide (linkedTo k s) (partner k s)) tt k s)
 
 -- the link is its own inverse
 pub partner-partner : (k : Corners) (s : Side) → partner k (partner k s) ≡ s

@@ -1,7 +1,9 @@
 -- Cells, that is squares of four samples, and the links between their sides. A cell has the column and row of its lower left sample.
 -- "Row 0 is lowest, y grows with the row": north is towards higher rows, east towards higher columns.
 use mathlib.Core.Bool.{Bool, cond, xor, _&&_}
-use Prim.Native.Nat.{ℕ, zero, suc, _+_, _*_}
+use mathlib.Core.List.{List, [], _∷_}
+use Prim.Native.Nat.{ℕ, zero, suc, _+_, _*_, _/_, _%_, _^_}
+use lib.ListN.{getD}
 use Rattle.arith.specs.Booleans.{asNumber}
 use Rattle.grid.specs.Layer.{Layer, sample}
 use Rattle.grid.specs.declared.edge.Edge.{Edge}
@@ -95,3 +97,28 @@ sideAt zero = South
 sideAt (suc zero) = East
 sideAt (suc (suc zero)) = North
 sideAt (suc (suc (suc n))) = West
+
+-- "The square patterns stand in a constant table": for each pattern the sides linked to its west, north, east and south side, two bits
+-- each, south lowest. That it is the rule `partner` is shown by one test (proofs/Links.antt).
+abbrev pub links : List ℕ
+links =
+    0b11_10_01_00 ∷
+    0b00_10_01_11 ∷
+    0b11_10_00_01 ∷
+    0b01_10_11_00 ∷
+    0b10_11_01_00 ∷
+    0b11_00_01_10 ∷
+    0b10_11_00_01 ∷
+    0b11_01_10_00 ∷
+    0b11_01_10_00 ∷
+    0b00_01_10_11 ∷
+    0b11_00_01_10 ∷
+    0b10_11_01_00 ∷
+    0b01_10_11_00 ∷
+    0b11_10_00_01 ∷
+    0b00_10_01_11 ∷
+    0b11_10_01_00 ∷
+    []
+
+abbrev pub linkedTo : Corners → Side → Side
+linkedTo k s = sideAt (getD links (index k) 0 / 2 ^ (2 * sideIndex s) % 4)

@@ -1,27 +1,13 @@
--- `linked` meets its contract: the table of patterns is the rule, by one test of all its entries.
+-- `linked` meets its contract: its table is that of the definitions, which is the rule.
 use mathlib.Core.Path.{_≡_, _∙_}
-use mathlib.Core.Bool.{xor}
-use mathlib.Core.List.{List, [], _∷_}
-use Prim.Native.Nat.{ℕ, _*_, _/_, _%_, _^_, _<_}
+use Prim.Native.Nat.{_<_}
 use native.Mathlib.Omega.{arith}
 use borrow.Author.Needs.{needs}
-use lib.ListN.{getD}
 use Rattle.grid.specs.Layer.{layerOf}
-use Rattle.grid.specs.Cells.{Corners, corners, partner, index, sideIndex, sideAt}
-use Rattle.grid.specs.declared.cell.Side.{Side}
-use Rattle.grid.proofs.Links.{at, sameSide, same-side, index-below, sideIndex-below}
+use Rattle.grid.specs.Cells.{corners, partner}
+use Rattle.grid.proofs.Links.{links-rule, index-below, sideIndex-below}
 use Rattle.grid.proofs.cell.linked.Statement.{statement}
 use Rattle.grid.proofs.cell.linked.Tie as tie
-
-links : List ℕ
-links = 228 ∷ 39 ∷ 225 ∷ 108 ∷ 180 ∷ 198 ∷ 177 ∷ 216 ∷ 216 ∷ 27 ∷ 198 ∷ 180 ∷ 108 ∷ 225 ∷ 39 ∷ 228 ∷ []
-
-linkedTo : Corners → Side → Side
-linkedTo k s = sideAt (getD links (index k) 0 / 2 ^ (2 * sideIndex s) % 4)
-
-table : (k : Corners) (s : Side) → linkedTo k s ≡ partner k s
-unfolding links linkedTo xor
-table k s = same-side (linkedTo k s) (partner k s) (at (λ k s. sameSide (linkedTo k s) (partner k s)) tt k s)
 
 pattern-requires : tie.Need-pattern-requires
 pattern-requires c κs = search needs
@@ -50,12 +36,11 @@ side-at-requires : tie.Need-side-at-requires
 side-at-requires c κs = search needs
 
 returns : tie.Need-returns
-unfolding links linkedTo
 returns c =
     let a = c .before .before .before .before .args in
     let k = corners (layerOf (a .size) (a .bitmap .now)) (a .p .column) (a .p .row) in
     let e : c .side-at .result ≡ partner k (a .p .side) =
-    c .side-at .ensures ∙ rw (c .before .side-index .ensures, c .before .before .pattern .ensures) (table k (a .p .side)) in
+    c .side-at .ensures ∙ rw (c .before .side-index .ensures, c .before .before .pattern .ensures) (links-rule k (a .p .side)) in
     λ i. record { column = a .p .column; row = a .p .row; side = e i }
 
 pub linked-spec : {M : Type 1} → statement M
