@@ -24,14 +24,16 @@ inside-in-row-requires c κs = search needs
 
 add-total : tie.Need-add-total Inv-loop μ-loop
 add-total c =
-    let a = c .before .before .before .before .args in
+    let start = c .before .before .before .before in
+    let loop = c .before .before .loop in
+    let a = start .args in
     let L = layerOf (a .size) (a .bitmap .now) in
-    let given = c .before .before .before .before .pre in
+    let given = start .pre in
     let sized = given .whole .sized in
-    let e = c .before .before .loop .inv .1 in
+    let e = loop .inv .1 in
     let f = c .inside-in-row .ensures in
-    let g = mul-le-mul {n₁ = c .before .before .loop .row} {m₁ = a .size .width} {n₂ = 1024} {m₂ = 1024} (omega arith) (omega arith) in
-    omega (arith, count-le (sampleAt L) (c .before .before .loop .row * a .size .width), count-le (sampleIn L (c .before .before .loop .row)) (a .size .width))
+    let g = mul-le-mul {n₁ = loop .row} {m₁ = a .size .width} {n₂ = 1024} {m₂ = 1024} (omega arith) (omega arith) in
+    omega (arith, count-le (sampleAt L) (loop .row * a .size .width), count-le (sampleIn L (loop .row)) (a .size .width))
 
 add-row : tie.Need-add-row Inv-loop μ-loop
 add-row c = search needs
@@ -41,10 +43,12 @@ loop-less c = search needs
 
 loop-again : tie.Need-loop-again Inv-loop μ-loop
 loop-again c =
-    let a = c .before .before .before .before .args in
+    let start = c .before .before .before .before in
+    let loop = c .before .before .loop in
+    let a = start .args in
     let L = layerOf (a .size) (a .bitmap .now) in
-    let given = c .before .before .before .before .pre in
-    (omega arith, ap₂ _+_ (c .before .before .loop .inv .1) (c .inside-in-row .ensures) ∙ sym (inside-rows L given (c .before .before .loop .row)))
+    let given = start .pre in
+    (omega arith, ap₂ _+_ (loop .inv .1) (c .inside-in-row .ensures) ∙ sym (inside-rows L given (loop .row)))
 
 returns : tie.Need-returns Inv-loop μ-loop
 returns c =

@@ -22,17 +22,21 @@ loop-holds : tie.Need-loop-holds Inv-loop μ-loop
 loop-holds c = (omega arith, count-zero _)
 
 row-byte-requires : tie.Need-row-byte-requires Inv-loop μ-loop
-row-byte-requires c κs = let e = c .before .before .stride-of .ensures in (c .before .before .before .before .pre .0 .whole, (omega arith, c .before .before .before .before .pre .1))
+row-byte-requires c κs =
+    let start = c .before .before .before .before in
+    let e = c .before .before .stride-of .ensures in (start .pre .0 .whole, (omega arith, start .pre .1))
 
 ones-of-requires : tie.Need-ones-of-requires Inv-loop μ-loop
 ones-of-requires c κs = search needs
 
 add-total : tie.Need-add-total Inv-loop μ-loop
 add-total c =
-    let a = c .before .before .before .before .before .before .args in
+    let start = c .before .before .before .before .before .before in
+    let loop = c .before .before .before .loop in
+    let a = start .args in
     let L = layerOf (a .size) (a .bitmap .now) in
-    let given = c .before .before .before .before .before .before .pre in
-    let e = c .before .before .before .loop .inv .1 in omega (arith, count-le (sampleIn L (a .row)) (8 * c .before .before .before .loop .at), c .ones-of .ensures .1)
+    let given = start .pre in
+    let e = loop .inv .1 in omega (arith, count-le (sampleIn L (a .row)) (8 * loop .at), c .ones-of .ensures .1)
 
 add-at : tie.Need-add-at Inv-loop μ-loop
 add-at c = search needs
@@ -42,21 +46,25 @@ loop-less c = search needs
 
 loop-again : tie.Need-loop-again Inv-loop μ-loop
 loop-again c =
-    let a = c .before .before .before .before .before .before .args in
+    let start = c .before .before .before .before .before .before in
+    let loop = c .before .before .before .loop in
+    let a = start .args in
     let L = layerOf (a .size) (a .bitmap .now) in
-    let given = c .before .before .before .before .before .before .pre in
+    let given = start .pre in
     let e = c .before .before .before .before .stride-of .ensures in (
       omega arith,
-      ap₂ _+_ (c .before .before .before .loop .inv .1) (c .ones-of .ensures .0 ∙ ap (λ (x : ℕ). count (bit x) 8) (c .before .row-byte .ensures)) ∙ sym (inside-byte L (given .0) (c .before .before .before .loop .at) (a .row)),
+      ap₂ _+_ (loop .inv .1) (c .ones-of .ensures .0 ∙ ap (λ (x : ℕ). count (bit x) 8) (c .before .row-byte .ensures)) ∙ sym (inside-byte L (given .0) (loop .at) (a .row)),
     )
 
 returns : tie.Need-returns Inv-loop μ-loop
 returns c =
-    let a = c .before .before .before .before .args in
+    let start = c .before .before .before .before in
+    let loop = c .before .loop in
+    let a = start .args in
     let L = layerOf (a .size) (a .bitmap .now) in
-    let given = c .before .before .before .before .pre in
-    let whole : c .before .loop .at ≡ stride (a .size) = let e = c .before .before .stride-of .ensures in omega arith in
-    c .before .loop .inv .1 ∙ ap (λ (n : ℕ). count (sampleIn L (a .row)) (8 * n)) whole ∙ inside-row L (given .0) (a .row) (given .1)
+    let given = start .pre in
+    let whole : loop .at ≡ stride (a .size) = let e = c .before .before .stride-of .ensures in omega arith in
+    loop .inv .1 ∙ ap (λ (n : ℕ). count (sampleIn L (a .row)) (8 * n)) whole ∙ inside-row L (given .0) (a .row) (given .1)
 
 pub inside-in-row-spec : {M : Type 1} → statement M
 inside-in-row-spec =

@@ -23,17 +23,21 @@ loop-holds : tie.Need-loop-holds Inv-loop μ-loop
 loop-holds c = (omega arith, count-zero _)
 
 stick-byte-requires : tie.Need-stick-byte-requires Inv-loop μ-loop
-stick-byte-requires c κs = let e = c .before .before .stride-of .ensures in (c .before .before .before .before .pre .0, (omega arith, c .before .before .before .before .pre .1))
+stick-byte-requires c κs =
+    let start = c .before .before .before .before in
+    let e = c .before .before .stride-of .ensures in (start .pre .0, (omega arith, start .pre .1))
 
 ones-of-requires : tie.Need-ones-of-requires Inv-loop μ-loop
 ones-of-requires c κs = search needs
 
 add-total : tie.Need-add-total Inv-loop μ-loop
 add-total c =
-    let a = c .before .before .before .before .before .before .args in
+    let start = c .before .before .before .before .before .before in
+    let loop = c .before .before .before .loop in
+    let a = start .args in
     let L = layerOf (a .size) (a .bitmap .now) in
-    let given = c .before .before .before .before .before .before .pre in
-    let e = c .before .before .before .loop .inv .1 in omega (arith, count-le (stickIn L (a .vertical) (a .row)) (8 * c .before .before .before .loop .at), c .ones-of .ensures .1)
+    let given = start .pre in
+    let e = loop .inv .1 in omega (arith, count-le (stickIn L (a .vertical) (a .row)) (8 * loop .at), c .ones-of .ensures .1)
 
 add-at : tie.Need-add-at Inv-loop μ-loop
 add-at c = search needs
@@ -43,22 +47,27 @@ loop-less c = search needs
 
 loop-again : tie.Need-loop-again Inv-loop μ-loop
 loop-again c =
-    let a = c .before .before .before .before .before .before .args in
+    let start = c .before .before .before .before .before .before in
+    let loop = c .before .before .before .loop in
+    let stick-byte = c .before .stick-byte in
+    let a = start .args in
     let L = layerOf (a .size) (a .bitmap .now) in
-    let given = c .before .before .before .before .before .before .pre in
+    let given = start .pre in
     let e = c .before .before .before .before .stride-of .ensures in (
       omega arith,
-      ap₂ _+_ (c .before .before .before .loop .inv .1) (c .ones-of .ensures .0)
-          ∙ sym (sticks-byte L (given .0) (a .vertical) (c .before .before .before .loop .at) (a .row) (c .before .stick-byte .result) (c .before .stick-byte .ensures)),
+      ap₂ _+_ (loop .inv .1) (c .ones-of .ensures .0)
+          ∙ sym (sticks-byte L (given .0) (a .vertical) (loop .at) (a .row) (stick-byte .result) (stick-byte .ensures)),
     )
 
 returns : tie.Need-returns Inv-loop μ-loop
 returns c =
-    let a = c .before .before .before .before .args in
+    let start = c .before .before .before .before in
+    let loop = c .before .loop in
+    let a = start .args in
     let L = layerOf (a .size) (a .bitmap .now) in
-    let given = c .before .before .before .before .pre in
-    let whole : c .before .loop .at ≡ stride (a .size) = let e = c .before .before .stride-of .ensures in omega arith in
-    c .before .loop .inv .1 ∙ ap (λ (n : ℕ). count (stickIn L (a .vertical) (a .row)) (8 * n)) whole ∙ sticks-row L (given .0) (a .vertical) (a .row)
+    let given = start .pre in
+    let whole : loop .at ≡ stride (a .size) = let e = c .before .before .stride-of .ensures in omega arith in
+    loop .inv .1 ∙ ap (λ (n : ℕ). count (stickIn L (a .vertical) (a .row)) (8 * n)) whole ∙ sticks-row L (given .0) (a .vertical) (a .row)
 
 pub sticks-in-row-spec : {M : Type 1} → statement M
 sticks-in-row-spec =

@@ -29,17 +29,19 @@ sticks-in-row-requires c κs = let e = c .before .before .edge-rows .ensures in 
 
 add-total : tie.Need-add-total Inv-loop μ-loop
 add-total c =
-    let a = c .before .before .before .before .before .args in
+    let start = c .before .before .before .before .before in
+    let loop = c .before .before .loop in
+    let a = start .args in
     let L = layerOf (a .size) (a .bitmap .now) in
-    let given = c .before .before .before .before .before .pre in
+    let given = start .pre in
     let sized = given .whole .sized in
-    let e = c .before .before .loop .inv .1 in
+    let e = loop .inv .1 in
     let f = c .sticks-in-row .ensures in
     let n = edgeColumns (a .size) (a .vertical) in
     let narrow = columns-narrow (a .size) sized (a .vertical) in
-    let g = mul-le-mul {n₁ = c .before .before .loop .row} {m₁ = n} {n₂ = 1024} {m₂ = 1024}
-    (let less = row-below-height (a .size) sized (a .vertical) (c .before .before .loop .row) (let r = c .before .before .before .edge-rows .ensures in omega arith) in omega arith) narrow in
-    omega (arith, count-le (stickOf L (a .vertical)) (c .before .before .loop .row * n), count-le (stickIn L (a .vertical) (c .before .before .loop .row)) n)
+    let g = mul-le-mul {n₁ = loop .row} {m₁ = n} {n₂ = 1024} {m₂ = 1024}
+    (let less = row-below-height (a .size) sized (a .vertical) (loop .row) (let r = c .before .before .before .edge-rows .ensures in omega arith) in omega arith) narrow in
+    omega (arith, count-le (stickOf L (a .vertical)) (loop .row * n), count-le (stickIn L (a .vertical) (loop .row)) n)
 
 add-row : tie.Need-add-row Inv-loop μ-loop
 add-row c = search needs
@@ -49,19 +51,23 @@ loop-less c = search needs
 
 loop-again : tie.Need-loop-again Inv-loop μ-loop
 loop-again c =
-    let a = c .before .before .before .before .before .args in
+    let start = c .before .before .before .before .before in
+    let loop = c .before .before .loop in
+    let a = start .args in
     let L = layerOf (a .size) (a .bitmap .now) in
-    let given = c .before .before .before .before .before .pre in
+    let given = start .pre in
     let e = c .before .before .before .edge-rows .ensures in
-    (omega arith, ap₂ _+_ (c .before .before .loop .inv .1) (c .sticks-in-row .ensures) ∙ sym (sticks-rows L given (a .vertical) (c .before .before .loop .row)))
+    (omega arith, ap₂ _+_ (loop .inv .1) (c .sticks-in-row .ensures) ∙ sym (sticks-rows L given (a .vertical) (loop .row)))
 
 returns : tie.Need-returns Inv-loop μ-loop
 returns c =
-    let a = c .before .before .before .before .args in
+    let start = c .before .before .before .before in
+    let loop = c .before .loop in
+    let a = start .args in
     let L = layerOf (a .size) (a .bitmap .now) in
-    let given = c .before .before .before .before .pre in
-    let whole : c .before .loop .row ≡ edgeRows (a .size) (a .vertical) = let e = c .before .before .edge-rows .ensures in let i = c .before .loop .inv .0 in omega arith in
-    c .before .loop .inv .1 ∙ ap (λ (n : ℕ). count (stickOf L (a .vertical)) (n * edgeColumns (a .size) (a .vertical))) whole
+    let given = start .pre in
+    let whole : loop .row ≡ edgeRows (a .size) (a .vertical) = let e = c .before .before .edge-rows .ensures in let i = loop .inv .0 in omega arith in
+    loop .inv .1 ∙ ap (λ (n : ℕ). count (stickOf L (a .vertical)) (n * edgeColumns (a .size) (a .vertical))) whole
 
 pub sticks-of-kind-spec : {M : Type 1} → statement M
 sticks-of-kind-spec =

@@ -29,17 +29,19 @@ add-result c = search needs
 
 returns : tie.Need-returns
 returns c =
-    let a = c .before .before .before .before .before .args in
+    let start = c .before .before .before .before .before in
+    let a = start .args in
     let L = layerOf (a .size) (a .bitmap .now) in
-    let given = c .before .before .before .before .before .pre in
+    let given = start .pre in
     rw (c .before .before .before .row-byte .ensures, c .row-byte2 .ensures)
     (follows-joined L (given .0) (λ i. c .before .before .before .before .shared-slice-known .given i .fits) (a .at) (a .row) (given .1 .0) (rw (c .before .before .stride-of .ensures) at (c .before .if1 .taken)))
 
 returns-2 : tie.Need-returns-2
 returns-2 c =
-    let a = c .before .before .before .before .args in
+    let start = c .before .before .before .before in
+    let a = start .args in
     let L = layerOf (a .size) (a .bitmap .now) in
-    let given = c .before .before .before .before .pre in
+    let given = start .pre in
     rw (c .before .before .row-byte .ensures)
     (follows-ended L (given .0) (λ i. c .before .before .before .shared-slice-known .given i .fits) (a .at) (a .row) (given .1 .0) (rw (c .before .stride-of .ensures) at (c .if1 .left)))
 

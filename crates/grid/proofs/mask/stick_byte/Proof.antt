@@ -42,9 +42,10 @@ shifted-byte-requires c κs =
 
 returns-2 : tie.Need-returns-2
 returns-2 c =
-    let a = c .before .before .before .before .args in
+    let start = c .before .before .before .before in
+    let a = start .args in
     let L = layerOf (a .size) (a .bitmap .now) in
-    let given = c .before .before .before .before .pre in
+    let given = start .pre in
     rw (c .before .if1 .left, c .before .before .row-byte .ensures)
     (marks-horizontal L (given .0) (a .at) (a .row) (given .1 .0)
     (row-below-height (a .size) (given .0 .whole .sized) (a .vertical) (a .row) (given .1 .1)) (c .shifted-byte .result) (c .shifted-byte .ensures))

@@ -50,17 +50,19 @@ add-t10 c = omega (arith, place c)
 returns : tie.Need-returns Inv-loop μ-loop
 unfolding borderAnswer
 returns c =
+    let loop = c .before .before .before .loop in
+    let border-column = c .before .border-column in
     let a = c .before .before .before .before .before .args in
     let L = layerOf (a .size) (a .bitmap .now) in
-    let row = c .before .before .before .loop .row in
-    let column = c .before .border-column .result in
-    let least-is = c .before .border-column .ensures in
+    let row = loop .row in
+    let column = border-column .result in
+    let least-is = border-column .ensures in
     let within : column < a .size .width = c .if1 .taken in
     let below : leastFrom (borderIn L row) 0 (a .size .width) < 0 + a .size .width = omega arith in
     each-no BorderInside (borderAt L) (a .size .height * a .size .width) (row * a .size .width + column)
     (digits-lt (c .before .before .loop-test .taken) within)
     (in-row L row column within true (rw (sym least-is) at (leastFrom-holds (borderIn L row) 0 (a .size .width) below)))
-    (below-add (λ (k : ℕ). borderAt L k ≡ false) (row * a .size .width) column (c .before .before .before .loop .inv .1)
+    (below-add (λ (k : ℕ). borderAt L k ≡ false) (row * a .size .width) column (loop .inv .1)
     (λ j h. in-row L row j (omega arith) false (leastFrom-below (borderIn L row) 0 (a .size .width) j (omega arith) (rw least-is at h))))
 
 add-row : tie.Need-add-row Inv-loop μ-loop
@@ -71,10 +73,11 @@ loop-less c = search needs
 
 loop-again : tie.Need-loop-again Inv-loop μ-loop
 loop-again c =
+    let loop = c .before .before .before .loop in
     let a = c .before .before .before .before .before .args in
     let L = layerOf (a .size) (a .bitmap .now) in
-    let row = c .before .before .before .loop .row in
-    let more = below-add (λ (k : ℕ). borderAt L k ≡ false) (row * a .size .width) (a .size .width) (c .before .before .before .loop .inv .1)
+    let row = loop .row in
+    let more = below-add (λ (k : ℕ). borderAt L k ≡ false) (row * a .size .width) (a .size .width) (loop .inv .1)
     (λ j h. in-row L row j h false (leastFrom-below (borderIn L row) 0 (a .size .width) j (omega arith)
     (let e = c .before .border-column .ensures in omega arith))) in
     (search needs, λ k h. more k (omega arith))

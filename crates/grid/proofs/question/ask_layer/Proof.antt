@@ -41,8 +41,9 @@ returns-2 c =
 
 ask-spare-requires : tie.Need-ask-spare-requires
 ask-spare-requires c κs =
-    whole-of (layerOf (c .before .before .before .before .before .before .before .args .size) (c .before .before .before .before .before .before .before .args .bitmap .now))
-    (sized-of (c .before .before .before .before .before .before .before .args .size) (sym (c .before .before .before .before .before .ask-sides .ensures) ∙ c .before .before .before .enum-told .given .1))
+    let start = c .before .before .before .before .before .before .before in
+    whole-of (layerOf (start .args .size) (start .args .bitmap .now))
+    (sized-of (start .args .size) (sym (c .before .before .before .before .before .ask-sides .ensures) ∙ c .before .before .before .enum-told .given .1))
     (sym (c .before .before .ask-length .ensures) ∙ c .enum-told3 .given .1)
 
 enum-told-5 : tie.Need-enum-told-5
@@ -53,27 +54,37 @@ enum-told-6 c = search needs
 
 returns-3 : tie.Need-returns-3
 returns-3 c =
-    let a = c .before .before .before .before .before .before .before .before .before .before .args in
+    let start = c .before .before .before .before .before .before .before .before .before .before in
+    let ask-sides = c .before .before .before .before .before .before .before .before .ask-sides in
+    let enum-told = c .before .before .before .before .before .before .enum-told in
+    let a = start .args in
     let L = layerOf (a .size) (a .bitmap .now) in
     first-no (borderAnswer L ∷ []) (c .before .before .ask-spare .ensures) (c .enum-told6 .given .1)
     ∙ first-yes (spareAnswer L ∷ borderAnswer L ∷ []) (c .before .before .before .before .before .ask-length .ensures) (c .before .before .before .enum-told3 .given .1)
-    ∙ first-yes (lengthAnswer L ∷ spareAnswer L ∷ borderAnswer L ∷ []) (c .before .before .before .before .before .before .before .before .ask-sides .ensures) (c .before .before .before .before .before .before .enum-told .given .1)
+    ∙ first-yes (lengthAnswer L ∷ spareAnswer L ∷ borderAnswer L ∷ []) (ask-sides .ensures) (enum-told .given .1)
 
 ask-border-requires : tie.Need-ask-border-requires
 ask-border-requires c κs =
-    whole-of (layerOf (c .before .before .before .before .before .before .before .before .before .before .args .size) (c .before .before .before .before .before .before .before .before .before .before .args .bitmap .now))
-    (sized-of (c .before .before .before .before .before .before .before .before .before .before .args .size) (sym (c .before .before .before .before .before .before .before .before .ask-sides .ensures) ∙ c .before .before .before .before .before .before .enum-told .given .1))
+    let start = c .before .before .before .before .before .before .before .before .before .before in
+    let ask-sides = c .before .before .before .before .before .before .before .before .ask-sides in
+    let enum-told = c .before .before .before .before .before .before .enum-told in
+    whole-of (layerOf (start .args .size) (start .args .bitmap .now))
+    (sized-of (start .args .size) (sym (ask-sides .ensures) ∙ enum-told .given .1))
     (sym (c .before .before .before .before .before .ask-length .ensures) ∙ c .before .before .before .enum-told3 .given .1)
 
 returns-4 : tie.Need-returns-4
 returns-4 c =
-    let a = c .before .before .before .before .before .before .before .before .before .before .before .args in
+    let start = c .before .before .before .before .before .before .before .before .before .before .before in
+    let ask-sides = c .before .before .before .before .before .before .before .before .before .ask-sides in
+    let enum-told = c .before .before .before .before .before .before .before .enum-told in
+    let ask-length = c .before .before .before .before .before .before .ask-length in
+    let a = start .args in
     let L = layerOf (a .size) (a .bitmap .now) in
     c .ask-border .ensures
     ∙ first-only (borderAnswer L)
     ∙ first-yes (borderAnswer L ∷ []) (c .before .before .before .ask-spare .ensures) (c .before .enum-told5 .given .1)
-    ∙ first-yes (spareAnswer L ∷ borderAnswer L ∷ []) (c .before .before .before .before .before .before .ask-length .ensures) (c .before .before .before .before .enum-told3 .given .1)
-    ∙ first-yes (lengthAnswer L ∷ spareAnswer L ∷ borderAnswer L ∷ []) (c .before .before .before .before .before .before .before .before .before .ask-sides .ensures) (c .before .before .before .before .before .before .before .enum-told .given .1)
+    ∙ first-yes (spareAnswer L ∷ borderAnswer L ∷ []) (ask-length .ensures) (c .before .before .before .before .enum-told3 .given .1)
+    ∙ first-yes (lengthAnswer L ∷ spareAnswer L ∷ borderAnswer L ∷ []) (ask-sides .ensures) (enum-told .given .1)
 
 pub ask-layer-spec : {M : Type 1} → statement M
 ask-layer-spec =

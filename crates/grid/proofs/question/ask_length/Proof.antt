@@ -13,8 +13,9 @@ stride-of-requires c κs = search needs
 
 mul-if1 : tie.Need-mul-if1
 mul-if1 c =
-    let sized = c .before .before .before .pre in
-    let bound = mul-le-mul {n₁ = c .before .before .before .args .size .height} {m₁ = c .before .stride-of .result} {n₂ = 1024} {m₂ = 128} (omega arith) (omega arith) in
+    let start = c .before .before .before in
+    let sized = start .pre in
+    let bound = mul-le-mul {n₁ = start .args .size .height} {m₁ = c .before .stride-of .result} {n₂ = 1024} {m₂ = 128} (omega arith) (omega arith) in
     omega arith
 
 returns : tie.Need-returns

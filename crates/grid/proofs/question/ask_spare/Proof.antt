@@ -32,17 +32,20 @@ row-end-requires c κs = search needs
 returns : tie.Need-returns Inv-loop μ-loop
 unfolding spareAnswer
 returns c =
-    let a = c .before .before .before .before .before .before .args in
+    let start = c .before .before .before .before .before .before in
+    let shared-slice-known = c .before .before .before .before .before .shared-slice-known in
+    let loop = c .before .before .before .before .loop in
+    let a = start .args in
     let L = layerOf (a .size) (a .bitmap .now) in
-    let row = c .before .before .before .before .loop .row in
+    let row = loop .row in
     let last = stride (a .size) - 1 in
-    let within : last < stride (a .size) = omega (arith, last-byte (a .size) (c .before .before .before .before .before .before .pre .sized)) in
+    let within : last < stride (a .size) = omega (arith, last-byte (a .size) (start .pre .sized)) in
     rw (c .row-end .ensures)
     (each-no SpareBits (spareSet L) (length (a .bitmap .now)) (row * stride (a .size) + last)
-    (byte-below L (c .before .before .before .before .before .before .pre) last row within (c .before .before .before .loop-test .taken))
+    (byte-below L (start .pre) last row within (c .before .before .before .loop-test .taken))
     (sym (c .before .before .spare-in .ensures) ∙ c .before .if1 .taken)
-    (below-add (λ (k : ℕ). spareSet L k ≡ false) (row * stride (a .size)) last (c .before .before .before .before .loop .inv .1)
-    (spare-inner L (c .before .before .before .before .before .before .pre) (λ i. c .before .before .before .before .before .shared-slice-known .given i .fits) row)))
+    (below-add (λ (k : ℕ). spareSet L k ≡ false) (row * stride (a .size)) last (loop .inv .1)
+    (spare-inner L (start .pre) (λ i. shared-slice-known .given i .fits) row)))
 
 add-row : tie.Need-add-row Inv-loop μ-loop
 add-row c = search needs
@@ -52,20 +55,24 @@ loop-less c = search needs
 
 loop-again : tie.Need-loop-again Inv-loop μ-loop
 loop-again c =
-    let a = c .before .before .before .before .before .args in
+    let start = c .before .before .before .before .before in
+    let loop = c .before .before .before .loop in
+    let a = start .args in
     let L = layerOf (a .size) (a .bitmap .now) in
-    let row = c .before .before .before .loop .row in
-    let more = below-add (λ (k : ℕ). spareSet L k ≡ false) (row * stride (a .size)) (stride (a .size)) (c .before .before .before .loop .inv .1)
-    (spare-row L (c .before .before .before .before .before .pre) (λ i. c .before .before .before .before .shared-slice-known .given i .fits) row (sym (c .before .spare-in .ensures) ∙ c .if1 .left)) in
+    let row = loop .row in
+    let more = below-add (λ (k : ℕ). spareSet L k ≡ false) (row * stride (a .size)) (stride (a .size)) (loop .inv .1)
+    (spare-row L (start .pre) (λ i. c .before .before .before .before .shared-slice-known .given i .fits) row (sym (c .before .spare-in .ensures) ∙ c .if1 .left)) in
     (search needs, λ k h. more k (omega arith))
 
 returns-2 : tie.Need-returns-2 Inv-loop μ-loop
 unfolding spareAnswer
 returns-2 c =
-    let a = c .before .before .before .args in
+    let start = c .before .before .before in
+    let loop = c .before .loop in
+    let a = start .args in
     let L = layerOf (a .size) (a .bitmap .now) in
     each-yes SpareBits (spareSet L) (length (a .bitmap .now))
-    (λ k h. c .before .loop .inv .1 k (let e = c .before .loop .inv .0 in let same : c .before .loop .row ≡ a .size .height = omega arith in rw same (omega (arith, c .before .before .before .pre .exact))))
+    (λ k h. loop .inv .1 k (let e = loop .inv .0 in let same : loop .row ≡ a .size .height = omega arith in rw same (omega (arith, start .pre .exact))))
 
 pub ask-spare-spec : {M : Type 1} → statement M
 ask-spare-spec =

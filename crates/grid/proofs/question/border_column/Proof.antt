@@ -55,20 +55,24 @@ sub-result c = search needs
 
 returns-4 : tie.Need-returns-4
 returns-4 c =
-    let a = c .before .before .before .before .before .before .before .before .before .before .args in
+    let start = c .before .before .before .before .before .before .before .before .before .before in
+    let if1 = c .before .before .before .before .before .before .before .before .if1 in
+    let a = start .args in
     let L = layerOf (a .size) (a .bitmap .now) in
     let w = a .size .width - 1 in
     let inside : borderIn L (a .row) w ≡ true = on-border L w (a .row) (east L w (a .row) refl) ∙ sym (c .before .before .is-inside2 .ensures) ∙ c .before .if4 .taken in
-    sym (least-is (borderIn L (a .row)) (a .size .width) w (omega (arith, c .before .before .before .before .before .before .before .before .before .before .pre .0 .sized)) inside
-    (λ j h. between L (a .row) (c .before .before .before .before .before .before .before .before .if1 .left) (c .before .before .before .before .before .before .if2 .left) (sym (c .before .before .before .before .before .is-inside .ensures) ∙ c .before .before .before .before .if3 .left) j (λ e. absurd (omega arith))))
+    sym (least-is (borderIn L (a .row)) (a .size .width) w (omega (arith, start .pre .0 .sized)) inside
+    (λ j h. between L (a .row) (if1 .left) (c .before .before .before .before .before .before .if2 .left) (sym (c .before .before .before .before .before .is-inside .ensures) ∙ c .before .before .before .before .if3 .left) j (λ e. absurd (omega arith))))
 
 returns-5 : tie.Need-returns-5
 returns-5 c =
-    let a = c .before .before .before .before .before .before .before .before .before .args in
+    let start = c .before .before .before .before .before .before .before .before .before in
+    let if1 = c .before .before .before .before .before .before .before .if1 in
+    let a = start .args in
     let L = layerOf (a .size) (a .bitmap .now) in
     let last : sample L (a .size .width - 1) (a .row) ≡ false = sym (c .before .is-inside2 .ensures) ∙ c .if4 .left in
     sym (least-none (borderIn L (a .row)) (a .size .width)
-    (λ j h. between L (a .row) (c .before .before .before .before .before .before .before .if1 .left) (c .before .before .before .before .before .if2 .left) (sym (c .before .before .before .before .is-inside .ensures) ∙ c .before .before .before .if3 .left) j (λ e. rw e last)))
+    (λ j h. between L (a .row) (if1 .left) (c .before .before .before .before .before .if2 .left) (sym (c .before .before .before .before .is-inside .ensures) ∙ c .before .before .before .if3 .left) j (λ e. rw e last)))
 
 pub border-column-spec : {M : Type 1} → statement M
 border-column-spec =

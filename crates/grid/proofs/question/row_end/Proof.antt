@@ -11,8 +11,9 @@ stride-of-requires c κs = search needs
 
 small : (c : tie.After-stride-of) → (c .before .args .row * c .stride-of .result ≤ 131072) × (c .stride-of .result ≤ 128)
 small c =
-    let sized = c .before .pre .0 in
-    (mul-le-mul {n₁ = c .before .args .row} {m₁ = c .stride-of .result} {n₂ = 1024} {m₂ = 128} (omega arith) (omega arith), omega arith)
+    let start = c .before in
+    let sized = start .pre .0 in
+    (mul-le-mul {n₁ = start .args .row} {m₁ = c .stride-of .result} {n₂ = 1024} {m₂ = 128} (omega arith) (omega arith), omega arith)
 
 mul-result : tie.Need-mul-result
 mul-result c = omega (arith, small c)

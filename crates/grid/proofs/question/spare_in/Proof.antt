@@ -32,9 +32,10 @@ shr-result c = search needs
 
 returns : tie.Need-returns
 returns c =
-    let size = c .before .before .before .before .before .args .size in
-    let within : stride size - 1 < stride size = omega (arith, last-byte size (c .before .before .before .before .before .pre .0 .sized)) in
-    rw (c .widen .ensures, c .before .row-byte .ensures, c .before .before .before .stride-of .ensures, digits-mod (c .before .before .before .before .before .args .row) within)
+    let start = c .before .before .before .before .before in
+    let size = start .args .size in
+    let within : stride size - 1 < stride size = omega (arith, last-byte size (start .pre .0 .sized)) in
+    rw (c .widen .ensures, c .before .row-byte .ensures, c .before .before .before .stride-of .ensures, digits-mod (start .args .row) within)
 
 pub spare-in-spec : {M : Type 1} → statement M
 spare-in-spec =

@@ -17,8 +17,9 @@ cell-beside-requires c κs =
 in-grid : (c : tie.After-cell-beside)
     → InGrid (layerOf (c .before .before .args .size) (c .before .before .args .bitmap .now)) (c .cell-beside .result)
 in-grid c =
-    let a = c .before .before .args in
-    let given = c .before .before .pre in
+    let start = c .before .before in
+    let a = start .args in
+    let given = start .pre in
     rw (c .cell-beside .ensures)
     (cell-beside (layerOf (a .size) (a .bitmap .now)) (given .0) (a .e .vertical) (a .e .column) (a .e .row) (given .1) (a .upper))
 

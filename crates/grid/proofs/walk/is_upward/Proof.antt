@@ -8,8 +8,9 @@ use Rattle.grid.proofs.walk.is_upward.Tie as tie
 
 is-inside-requires : tie.Need-is-inside-requires
 is-inside-requires c κs =
-    let a = c .before .args in
-    let given = c .before .pre in
+    let start = c .before in
+    let a = start .args in
+    let given = start .pre in
     let inside = stick-sample (layerOf (a .size) (a .bitmap .now)) (given .0) (a .e .vertical) (a .e .column) (a .e .row) (given .1) in
     (given .0 .whole, inside)
 

@@ -19,12 +19,15 @@ cast-t4 c = search needs
 returns-2 : tie.Need-returns-2
 unfolding entryOf
 returns-2 c =
-    let e : c .before .before .args .n % 256 ≡ c .before .before .args .n = omega arith in
-    rw (ne-eqb (c .before .before .args .n) 0 (c .before .if1 .left), le-leb (c .before .before .args .n) 255 (c .if2 .taken)) (ap Kept e)
+    let start = c .before .before in
+    let e : start .args .n % 256 ≡ start .args .n = omega arith in
+    rw (ne-eqb (start .args .n) 0 (c .before .if1 .left), le-leb (start .args .n) 255 (c .if2 .taken)) (ap Kept e)
 
 returns-3 : tie.Need-returns-3
 unfolding entryOf
-returns-3 c = rw (ne-eqb (c .before .before .before .args .n) 0 (c .before .before .if1 .left), lt-leb (c .before .before .before .args .n) 255 (c .before .if2 .left), lt-leb 257 (c .before .before .before .args .n) (c .if3 .taken))
+returns-3 c =
+    let start = c .before .before .before in
+    rw (ne-eqb (start .args .n) 0 (c .before .before .if1 .left), lt-leb (start .args .n) 255 (c .before .if2 .left), lt-leb 257 (start .args .n) (c .if3 .taken))
 
 cast-t6 : tie.Need-cast-t6
 cast-t6 c = search needs
@@ -32,12 +35,15 @@ cast-t6 c = search needs
 returns-4 : tie.Need-returns-4
 unfolding entryOf
 returns-4 c =
-    let e : c .before .before .before .before .args .n % 256 ≡ c .before .before .before .before .args .n - 256 = omega arith in
-    rw (ne-eqb (c .before .before .before .before .args .n) 0 (c .before .before .before .if1 .left), lt-leb (c .before .before .before .before .args .n) 255 (c .before .before .if2 .left), le-leb 257 (c .before .before .before .before .args .n) (c .before .if3 .left), le-leb (c .before .before .before .before .args .n) 511 (c .if4 .taken)) (ap Removed e)
+    let start = c .before .before .before .before in
+    let e : start .args .n % 256 ≡ start .args .n - 256 = omega arith in
+    rw (ne-eqb (start .args .n) 0 (c .before .before .before .if1 .left), lt-leb (start .args .n) 255 (c .before .before .if2 .left), le-leb 257 (start .args .n) (c .before .if3 .left), le-leb (start .args .n) 511 (c .if4 .taken)) (ap Removed e)
 
 returns-5 : tie.Need-returns-5
 unfolding entryOf
-returns-5 c = rw (ne-eqb (c .before .before .before .before .args .n) 0 (c .before .before .before .if1 .left), lt-leb (c .before .before .before .before .args .n) 255 (c .before .before .if2 .left), le-leb 257 (c .before .before .before .before .args .n) (c .before .if3 .left), lt-leb (c .before .before .before .before .args .n) 511 (c .if4 .left))
+returns-5 c =
+    let start = c .before .before .before .before in
+    rw (ne-eqb (start .args .n) 0 (c .before .before .before .if1 .left), lt-leb (start .args .n) 255 (c .before .before .if2 .left), le-leb 257 (start .args .n) (c .before .if3 .left), lt-leb (start .args .n) 511 (c .if4 .left))
 
 pub entry-of-spec : {M : Type 1} → statement M
 entry-of-spec =

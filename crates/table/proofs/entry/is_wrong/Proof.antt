@@ -23,7 +23,9 @@ enum-told-4 : tie.Need-enum-told-4
 enum-told-4 c = search needs
 
 returns : tie.Need-returns
-returns c = sym (Bool·not-not (c .before .before .before .args .stick)) ∙ ap (λ (e : Entry). not (suits (c .before .before .before .args .stick) e)) (sym (c .enum-told .given .1) ∙ c .before .before .entry-of .ensures)
+returns c =
+    let start = c .before .before .before in
+    sym (Bool·not-not (start .args .stick)) ∙ ap (λ (e : Entry). not (suits (start .args .stick) e)) (sym (c .enum-told .given .1) ∙ c .before .before .entry-of .ensures)
 
 returns-2 : tie.Need-returns-2
 returns-2 c = ap (λ (e : Entry). not (suits (c .before .before .before .args .stick) e)) (sym (c .enum-told2 .given .1) ∙ c .before .before .entry-of .ensures)

@@ -61,6 +61,7 @@ edge-count-requires c κs = search needs
 returns-2 : tie.Need-returns-2
 unfolding entriesAnswer
 returns-2 c =
+    let wrong-of-kind2 = c .before .before .wrong-of-kind2 in
     let a = c .before .before .before .before .before .before .before .before .args in
     let L = layerOf (a .size) (a .bitmap .now) in
     let given = c .before .before .before .before .before .before .before .before .pre in
@@ -69,8 +70,8 @@ returns-2 c =
     let split = edges-split (a .size) sized in
     let start = c .before .before .before .before .before .kind-start .ensures in
     let low = c .before .before .before .before .wrong-of-kind .ensures in
-    let high = c .before .before .wrong-of-kind2 .ensures in
-    let k = c .before .before .wrong-of-kind2 .result in
+    let high = wrong-of-kind2 .ensures in
+    let k = wrong-of-kind2 .result in
     let within : k < edgeRows (a .size) true * edgeColumns (a .size) true = let h = rw (c .before .edge-count .ensures) at (c .if2 .taken) in omega arith in
     rw start
     (each-no WrongEntry (wrongAt L t) (edgeCount (a .size)) (kindStart (a .size) true + k) (omega arith)

@@ -20,17 +20,21 @@ enum-told-2 c = search needs
 
 returns : tie.Need-returns
 returns c =
-    let L = layerOf (c .before .before .before .before .args .size) (c .before .before .before .before .args .bitmap .now) in
-    let last = tableLengthAnswer (c .before .before .before .before .args .size) (c .before .before .before .before .args .entries) in
+    let start = c .before .before .before .before in
+    let L = layerOf (start .args .size) (start .args .bitmap .now) in
+    let last = tableLengthAnswer (start .args .size) (start .args .entries) in
     c .enum-told2 .given .1 ∙ append-no (layerQuestions L) (last ∷ []) (sym (c .before .before .ask-layer .ensures) ∙ c .enum-told2 .given .1)
 
 ask-table-length-requires : tie.Need-ask-table-length-requires
-ask-table-length-requires c κs = sound-of (layerOf (c .before .before .before .before .args .size) (c .before .before .before .before .args .bitmap .now)) (sym (c .before .before .ask-layer .ensures) ∙ c .enum-told .given .1) .whole .sized
+ask-table-length-requires c κs =
+    let start = c .before .before .before .before in
+    sound-of (layerOf (start .args .size) (start .args .bitmap .now)) (sym (c .before .before .ask-layer .ensures) ∙ c .enum-told .given .1) .whole .sized
 
 returns-2 : tie.Need-returns-2
 returns-2 c =
-    let L = layerOf (c .before .before .before .before .before .args .size) (c .before .before .before .before .before .args .bitmap .now) in
-    let last = tableLengthAnswer (c .before .before .before .before .before .args .size) (c .before .before .before .before .before .args .entries) in
+    let start = c .before .before .before .before .before in
+    let L = layerOf (start .args .size) (start .args .bitmap .now) in
+    let last = tableLengthAnswer (start .args .size) (start .args .entries) in
     c .ask-table-length .ensures
     ∙ first-only last
     ∙ append-yes (layerQuestions L) (last ∷ []) (sym (c .before .before .before .ask-layer .ensures) ∙ c .before .enum-told .given .1)

@@ -42,8 +42,10 @@ loop-less c = search needs
 
 loop-again : tie.Need-loop-again Inv-loop μ-loop
 loop-again c =
-    let x = getD (c .before .before .before .args .table .now) (c .before .before .before .args .start + c .before .before .loop .b) 0 in
-    (omega arith, λ e. below-more (λ (k : ℕ). getD (c .before .before .before .args .table .now) (c .before .before .before .args .start + k) 0 ≡ 0) (c .before .before .loop .b) (c .before .before .loop .inv .1 (neither (c .before .before .loop .any) x e .0)) (neither (c .before .before .loop .any) x e .1))
+    let start = c .before .before .before in
+    let loop = c .before .before .loop in
+    let x = getD (start .args .table .now) (start .args .start + loop .b) 0 in
+    (omega arith, λ e. below-more (λ (k : ℕ). getD (start .args .table .now) (start .args .start + k) 0 ≡ 0) (loop .b) (loop .inv .1 (neither (loop .any) x e .0)) (neither (loop .any) x e .1))
 
 returns : tie.Need-returns Inv-loop μ-loop
 returns c = λ t k h. c .before .loop .inv .1 (eqb-true (c .before .loop .any) 0 t) k (omega arith)

@@ -34,9 +34,10 @@ mul-loop c = let i = c .loop .inv .0 in omega arith
 
 stick-byte-requires : tie.Need-stick-byte-requires Inv-loop μ-loop
 stick-byte-requires c κs =
-    let a = c .before .before .before .before .before .before .args in
+    let start = c .before .before .before .before .before .before in
+    let a = start .args in
     let L = layerOf (a .size) (a .bitmap .now) in
-    let given = c .before .before .before .before .before .before .pre in
+    let given = start .pre in
     (given .0, (column-stride (a .size) (given .0 .whole .sized) (a .vertical) (c .before .loop .at) (rw (c .before .before .before .edge-columns .ensures) at (c .loop-test .taken)), given .1 .1))
 
 mul-run-length : tie.Need-mul-run-length Inv-loop μ-loop
@@ -74,12 +75,19 @@ add-result c = let i = c .before .before .before .before .before .loop .inv .0 i
 
 returns : tie.Need-returns Inv-loop μ-loop
 returns c =
-    let a = c .before .before .before .before .before .before .before .before .before .before .args in
+    let start = c .before .before .before .before .before .before .before .before .before .before in
+    let edge-columns = c .before .before .before .before .before .before .before .edge-columns in
+    let row-start = c .before .before .before .before .before .before .row-start in
+    let loop = c .before .before .before .before .before .loop in
+    let stick-byte = c .before .before .before .stick-byte in
+    let run-length = c .before .before .run-length in
+    let first-wrong-fast = c .before .first-wrong-fast in
+    let a = start .args in
     let L = layerOf (a .size) (a .bitmap .now) in
-    let given = c .before .before .before .before .before .before .before .before .before .before .pre in
-    run-found L (a .table .now) (a .vertical) (c .before .before .before .before .before .loop .at) (a .row) (c .before .before .before .stick-byte .result) (c .before .before .run-length .result) (c .before .before .before .stick-byte .ensures)
-    (c .before .before .run-length .ensures .0) (c .before .before .before .before .before .loop .inv .1) (rw (c .before .before .before .before .before .before .before .edge-columns .ensures) at (c .before .before .run-length .ensures .1)) (c .before .first-wrong-fast .result)
-    (rw (c .before .before .before .before .before .before .row-start .ensures) at (c .before .first-wrong-fast .ensures)) (c .if1 .taken)
+    let given = start .pre in
+    run-found L (a .table .now) (a .vertical) (loop .at) (a .row) (stick-byte .result) (run-length .result) (stick-byte .ensures)
+    (run-length .ensures .0) (loop .inv .1) (rw (edge-columns .ensures) at (run-length .ensures .1)) (first-wrong-fast .result)
+    (rw (row-start .ensures) at (first-wrong-fast .ensures)) (c .if1 .taken)
 
 add-at : tie.Need-add-at Inv-loop μ-loop
 add-at c = let i = c .before .before .before .before .before .loop .inv .0 in omega arith
@@ -89,15 +97,21 @@ loop-less c = omega arith
 
 loop-again : tie.Need-loop-again Inv-loop μ-loop
 loop-again c =
-    let a = c .before .before .before .before .before .before .before .before .before .before .args in
+    let start = c .before .before .before .before .before .before .before .before .before .before in
+    let edge-columns = c .before .before .before .before .before .before .before .edge-columns in
+    let row-start = c .before .before .before .before .before .before .row-start in
+    let loop = c .before .before .before .before .before .loop in
+    let stick-byte = c .before .before .before .stick-byte in
+    let run-length = c .before .before .run-length in
+    let a = start .args in
     let L = layerOf (a .size) (a .bitmap .now) in
-    let given = c .before .before .before .before .before .before .before .before .before .before .pre in
+    let given = start .pre in
     let narrow = columns-narrow (a .size) (given .0 .whole .sized) (a .vertical) in
-    let e = c .before .before .before .before .before .before .before .edge-columns .ensures in
-    let found = rw (c .before .before .before .before .before .before .row-start .ensures) at (c .before .first-wrong-fast .ensures) in (
+    let e = edge-columns .ensures in
+    let found = rw (row-start .ensures) at (c .before .first-wrong-fast .ensures) in (
       omega arith,
-      run-passed L (a .table .now) (a .vertical) (c .before .before .before .before .before .loop .at) (a .row) (c .before .before .before .stick-byte .result) (c .before .before .run-length .result) (c .before .before .before .stick-byte .ensures)
-          (c .before .before .run-length .ensures .0) (c .before .before .before .before .before .loop .inv .1) (rw (c .before .before .before .before .before .before .before .edge-columns .ensures) at (c .before .before .run-length .ensures .3)) (rw found at (c .if1 .left)),
+      run-passed L (a .table .now) (a .vertical) (loop .at) (a .row) (stick-byte .result) (run-length .result) (stick-byte .ensures)
+          (run-length .ensures .0) (loop .inv .1) (rw (edge-columns .ensures) at (run-length .ensures .3)) (rw found at (c .if1 .left)),
     )
 
 returns-2 : tie.Need-returns-2 Inv-loop μ-loop

@@ -29,44 +29,54 @@ loop-holds : tie.Need-loop-holds Inv-loop μ-loop
 loop-holds c = (omega arith, λ k h. absurd (omega arith))
 
 wrong-in-row-requires : tie.Need-wrong-in-row-requires Inv-loop μ-loop
-wrong-in-row-requires c κs = let e = c .before .before .edge-rows .ensures in (c .before .before .before .before .before .before .pre .0, (c .before .before .before .before .before .before .pre .1, omega arith))
+wrong-in-row-requires c κs =
+    let start = c .before .before .before .before .before .before in
+    let e = c .before .before .edge-rows .ensures in (start .pre .0, (start .pre .1, omega arith))
 
 mul-result : tie.Need-mul-result Inv-loop μ-loop
 mul-result c =
-    let a = c .before .before .before .before .before .before .before .before .args in
+    let start = c .before .before .before .before .before .before .before .before in
+    let a = start .args in
     let L = layerOf (a .size) (a .bitmap .now) in
-    let given = c .before .before .before .before .before .before .before .before .pre in
+    let given = start .pre in
     let e = c .before .before .before .before .edge-rows .ensures in
     let small = rows-small (a .size) (given .0 .whole .sized) (a .vertical) (c .before .before .before .loop .row) (omega arith) in
     rw (c .before .before .before .before .before .edge-columns .ensures) (omega arith)
 
 add-result : tie.Need-add-result Inv-loop μ-loop
 add-result c =
-    let a = c .before .before .before .before .before .before .before .before .args in
+    let start = c .before .before .before .before .before .before .before .before in
+    let edge-columns = c .before .before .before .before .before .edge-columns in
+    let a = start .args in
     let L = layerOf (a .size) (a .bitmap .now) in
-    let given = c .before .before .before .before .before .before .before .before .pre in
+    let given = start .pre in
     let e = c .before .before .before .before .edge-rows .ensures in
     let small = rows-small (a .size) (given .0 .whole .sized) (a .vertical) (c .before .before .before .loop .row) (omega arith) in
     let n = columns-narrow (a .size) (given .0 .whole .sized) (a .vertical) in
-    let f = c .before .before .before .before .before .edge-columns .ensures in
-    rw (c .before .before .before .before .before .edge-columns .ensures) (omega arith)
+    let f = edge-columns .ensures in
+    rw (edge-columns .ensures) (omega arith)
 
 returns : tie.Need-returns Inv-loop μ-loop
 returns c =
-    let a = c .before .before .before .before .before .before .before .before .args in
+    let start = c .before .before .before .before .before .before .before .before in
+    let edge-columns = c .before .before .before .before .before .edge-columns in
+    let loop = c .before .before .before .loop in
+    let wrong-in-row = c .before .wrong-in-row in
+    let a = start .args in
     let L = layerOf (a .size) (a .bitmap .now) in
-    let given = c .before .before .before .before .before .before .before .before .pre in
+    let given = start .pre in
     let e = c .before .before .before .before .edge-rows .ensures in
-    let n = c .before .before .before .before .before .edge-columns .ensures in
-    rw (c .before .before .before .before .before .edge-columns .ensures)
-    (row-found L (a .table .now) (given .0 .whole .sized) (a .vertical) (c .before .before .before .loop .row) (omega arith) (c .before .before .before .loop .inv .1) (c .before .wrong-in-row .result) (c .before .wrong-in-row .ensures)
-    (rw (c .before .before .before .before .before .edge-columns .ensures) at (c .if1 .taken)))
+    let n = edge-columns .ensures in
+    rw (edge-columns .ensures)
+    (row-found L (a .table .now) (given .0 .whole .sized) (a .vertical) (loop .row) (omega arith) (loop .inv .1) (wrong-in-row .result) (wrong-in-row .ensures)
+    (rw (edge-columns .ensures) at (c .if1 .taken)))
 
 add-row : tie.Need-add-row Inv-loop μ-loop
 add-row c =
-    let a = c .before .before .before .before .before .before .before .before .args in
+    let start = c .before .before .before .before .before .before .before .before in
+    let a = start .args in
     let L = layerOf (a .size) (a .bitmap .now) in
-    let given = c .before .before .before .before .before .before .before .before .pre in
+    let given = start .pre in
     let e = c .before .before .before .before .edge-rows .ensures in
     let small = rows-small (a .size) (given .0 .whole .sized) (a .vertical) (c .before .before .before .loop .row) (omega arith) in
     omega arith
@@ -76,13 +86,15 @@ loop-less c = omega arith
 
 loop-again : tie.Need-loop-again Inv-loop μ-loop
 loop-again c =
-    let a = c .before .before .before .before .before .before .before .before .args in
+    let start = c .before .before .before .before .before .before .before .before in
+    let loop = c .before .before .before .loop in
+    let a = start .args in
     let L = layerOf (a .size) (a .bitmap .now) in
-    let given = c .before .before .before .before .before .before .before .before .pre in
+    let given = start .pre in
     let e = c .before .before .before .before .edge-rows .ensures in
     let n = c .before .before .before .before .before .edge-columns .ensures in
     let found = c .before .wrong-in-row .ensures in
-    (omega arith, row-passed L (a .table .now) (given .0 .whole .sized) (a .vertical) (c .before .before .before .loop .row) (omega arith) (c .before .before .before .loop .inv .1) (omega arith))
+    (omega arith, row-passed L (a .table .now) (given .0 .whole .sized) (a .vertical) (loop .row) (omega arith) (loop .inv .1) (omega arith))
 
 mul-result-2 : tie.Need-mul-result-2 Inv-loop μ-loop
 mul-result-2 c =
@@ -94,12 +106,15 @@ mul-result-2 c =
 
 returns-2 : tie.Need-returns-2 Inv-loop μ-loop
 returns-2 c =
-    let a = c .before .before .before .before .before .before .args in
+    let start = c .before .before .before .before .before .before in
+    let edge-rows = c .before .before .edge-rows in
+    let loop = c .before .loop in
+    let a = start .args in
     let L = layerOf (a .size) (a .bitmap .now) in
-    let given = c .before .before .before .before .before .before .pre in
-    let whole : c .before .loop .row ≡ edgeRows (a .size) (a .vertical) = let e = c .before .before .edge-rows .ensures in let i = c .before .loop .inv .0 in omega arith in
-    rw (c .before .before .edge-rows .ensures, c .before .before .before .edge-columns .ensures)
-    (sym (least-none (wrongOf L (a .table .now) (a .vertical)) (edgeRows (a .size) (a .vertical) * edgeColumns (a .size) (a .vertical)) (λ k h. c .before .loop .inv .1 k (rw whole h))))
+    let given = start .pre in
+    let whole : loop .row ≡ edgeRows (a .size) (a .vertical) = let e = edge-rows .ensures in let i = loop .inv .0 in omega arith in
+    rw (edge-rows .ensures, c .before .before .before .edge-columns .ensures)
+    (sym (least-none (wrongOf L (a .table .now) (a .vertical)) (edgeRows (a .size) (a .vertical) * edgeColumns (a .size) (a .vertical)) (λ k h. loop .inv .1 k (rw whole h))))
 
 pub wrong-of-kind-spec : {M : Type 1} → statement M
 wrong-of-kind-spec =

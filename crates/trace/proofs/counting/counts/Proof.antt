@@ -58,7 +58,8 @@ figures-are L n answer e =
 
 returns : tie.Need-returns
 returns c =
-    let a = c .before .before .before .before .before .before .before .before .args in
+    let start = c .before .before .before .before .before .before .before .before in
+    let a = start .args in
     let n = length (a .table .now) in
     let L = layerOf (sizeOf (a .w) (a .h)) (a .bitmap .now) in
     (λ i. record {
@@ -72,10 +73,11 @@ returns c =
 
 returns-2 : tie.Need-returns-2
 returns-2 c =
+    let answer = c .before .answer in
     let a = c .before .before .before .before .before .before .args in
     let n = length (a .table .now) in
     let L = layerOf (sizeOf (a .w) (a .h)) (a .bitmap .now) in
-    sym (figures-are L n (No (c .before .answer .given .0 .0) (c .before .answer .given .0 .1 .0)) (sym (c .before .before .before .ask-lengths .ensures) ∙ c .before .answer .given .1))
+    sym (figures-are L n (No (answer .given .0 .0) (answer .given .0 .1 .0)) (sym (c .before .before .before .ask-lengths .ensures) ∙ answer .given .1))
 
 pub counts-spec : {M : Type 1} → statement M
 counts-spec =

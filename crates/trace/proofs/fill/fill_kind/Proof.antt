@@ -38,10 +38,12 @@ fill-row-requires c κs =
 
 add-row : tie.Need-add-row Inv-loop μ-loop
 add-row c =
-    let a = c .before .before .before .before .before .before .before .before .before .args in
+    let start = c .before .before .before .before .before .before .before .before .before in
+    let edge-rows = c .before .before .before .before .before .before .edge-rows in
+    let a = start .args in
     let L = layerOf (a .size) (a .bitmap .now) in
-    let given = c .before .before .before .before .before .before .before .before .before .pre in
-    let e = c .before .before .before .before .before .before .edge-rows .ensures in
+    let given = start .pre in
+    let e = edge-rows .ensures in
     let small = rows-small (a .size) (given .0 .whole .sized) (a .vertical) (c .before .before .before .before .before .loop .row) (omega arith) in omega arith
 
 loop-less : tie.Need-loop-less Inv-loop μ-loop
@@ -49,15 +51,18 @@ loop-less c = omega arith
 
 loop-again : tie.Need-loop-again Inv-loop μ-loop
 loop-again c =
-    let a = c .before .before .before .before .before .before .before .before .before .args in
+    let start = c .before .before .before .before .before .before .before .before .before in
+    let edge-rows = c .before .before .before .before .before .before .edge-rows in
+    let loop = c .before .before .before .before .before .loop in
+    let a = start .args in
     let L = layerOf (a .size) (a .bitmap .now) in
-    let given = c .before .before .before .before .before .before .before .before .before .pre in
-    let e = c .before .before .before .before .before .before .edge-rows .ensures in
+    let given = start .pre in
+    let e = edge-rows .ensures in
     let n = edgeColumns (a .size) (a .vertical) in (
       omega arith,
       c .before .before .fill-row .ensures
-          ∙ ap (fill (tracedEntry L) (rowStart (a .size) (a .vertical) (c .before .before .before .before .before .loop .row)) n) (c .before .before .before .before .before .loop .inv .1)
-          ∙ row-more L (a .vertical) (c .before .before .before .before .before .loop .row) (a .table .now),
+          ∙ ap (fill (tracedEntry L) (rowStart (a .size) (a .vertical) (loop .row)) n) (loop .inv .1)
+          ∙ row-more L (a .vertical) (loop .row) (a .table .now),
     )
 
 same-length : tie.Need-same-length Inv-loop μ-loop
@@ -65,11 +70,13 @@ same-length c = ap length (c .before .loop .inv .1) ∙ length-fill _ _ _ _
 
 returns : tie.Need-returns Inv-loop μ-loop
 returns c =
-    let a = c .before .before .before .before .before .args in
+    let start = c .before .before .before .before .before in
+    let loop = c .before .loop in
+    let a = start .args in
     let L = layerOf (a .size) (a .bitmap .now) in
-    let given = c .before .before .before .before .before .pre in
-    let all : c .before .loop .row ≡ edgeRows (a .size) (a .vertical) = let e = c .before .before .edge-rows .ensures in let i = c .before .loop .inv .0 in omega arith in
-    c .before .loop .inv .1 ∙ ap (λ (r : ℕ). fill (tracedEntry L) (kindStart (a .size) (a .vertical)) (r * edgeColumns (a .size) (a .vertical)) (a .table .now)) all
+    let given = start .pre in
+    let all : loop .row ≡ edgeRows (a .size) (a .vertical) = let e = c .before .before .edge-rows .ensures in let i = loop .inv .0 in omega arith in
+    loop .inv .1 ∙ ap (λ (r : ℕ). fill (tracedEntry L) (kindStart (a .size) (a .vertical)) (r * edgeColumns (a .size) (a .vertical)) (a .table .now)) all
 
 pub fill-kind-spec : {M : Type 1} → statement M
 fill-kind-spec =

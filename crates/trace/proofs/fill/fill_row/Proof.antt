@@ -29,7 +29,8 @@ row-start-requires c κs = search needs
 
 loop-holds : tie.Need-loop-holds Inv-loop μ-loop
 loop-holds c =
-    let none : min (8 * 0) (edgeColumns (c .before .before .before .before .args .size) (c .before .before .before .before .args .vertical)) ≡ 0 = omega arith in
+    let start = c .before .before .before .before in
+    let none : min (8 * 0) (edgeColumns (start .args .size) (start .args .vertical)) ≡ 0 = omega arith in
     (omega arith, rw none (fill-none _ _ _))
 
 mul-loop : tie.Need-mul-loop Inv-loop μ-loop
@@ -37,9 +38,10 @@ mul-loop c = let i = c .loop .inv .0 in omega arith
 
 stick-byte-requires : tie.Need-stick-byte-requires Inv-loop μ-loop
 stick-byte-requires c κs =
-    let a = c .before .before .before .before .before .before .args in
+    let start = c .before .before .before .before .before .before in
+    let a = start .args in
     let L = layerOf (a .size) (a .bitmap .now) in
-    let given = c .before .before .before .before .before .before .pre in
+    let given = start .pre in
     (given .0, (column-stride (a .size) (given .0 .whole .sized) (a .vertical) (c .before .loop .at) (rw (c .before .before .before .edge-columns .ensures) at (c .loop-test .taken)), given .1 .1))
 
 mul-run-length : tie.Need-mul-run-length Inv-loop μ-loop
@@ -56,10 +58,12 @@ fits : (c : tie.After-fill-run-arg Inv-loop μ-loop)
     ≤ length (c .before .before .before .before .loop .table))
     × (c .before .before .before .before .before .row-start .result + 8 * c .before .before .before .before .loop .at ≤ 2095104)
 fits c =
-    let a = c .before .before .before .before .before .before .before .before .before .args in
-    let given = c .before .before .before .before .before .before .before .before .before .pre in
+    let start = c .before .before .before .before .before .before .before .before .before in
+    let edge-columns = c .before .before .before .before .before .before .edge-columns in
+    let a = start .args in
+    let given = start .pre in
     let sized = given .0 .whole .sized in
-    let within = rw (c .before .before .before .before .before .before .edge-columns .ensures) at (c .before .run-length .ensures .1) in
+    let within = rw (edge-columns .ensures) at (c .before .run-length .ensures .1) in
     let same = ap length (c .before .before .before .before .loop .inv .1) ∙ length-fill _ _ _ (a .table .now) in
     rw (c .before .before .before .before .before .row-start .ensures)
     (omega (arith, row-fits (a .size) sized (a .vertical) (a .row) (given .1 .1), given .1 .0, edges-small (a .size) sized))
@@ -78,23 +82,29 @@ loop-less c = search needs
 
 loop-again : tie.Need-loop-again Inv-loop μ-loop
 loop-again c =
-    let a = c .before .before .before .before .before .before .before .before .before .before .before .before .args in
+    let start = c .before .before .before .before .before .before .before .before .before .before .before .before in
+    let edge-columns = c .before .before .before .before .before .before .before .before .before .edge-columns in
+    let row-start = c .before .before .before .before .before .before .before .before .row-start in
+    let loop = c .before .before .before .before .before .before .before .loop in
+    let stick-byte = c .before .before .before .before .before .stick-byte in
+    let run-length = c .before .before .before .before .run-length in
+    let a = start .args in
     let L = layerOf (a .size) (a .bitmap .now) in
-    let given = c .before .before .before .before .before .before .before .before .before .before .before .before .pre in
+    let given = start .pre in
     let narrow = columns-narrow (a .size) (given .0 .whole .sized) (a .vertical) in
-    let e = c .before .before .before .before .before .before .before .before .before .edge-columns .ensures in
+    let e = edge-columns .ensures in
     let f = tracedEntry L in
     let s = rowStart (a .size) (a .vertical) (a .row) in
-    let n = c .before .before .before .before .run-length .result in
-    let fits = rw e at (c .before .before .before .before .run-length .ensures .1) in
-    let all = rw e at (c .before .before .before .before .run-length .ensures .3) in
-    let now-at : min (8 * c .before .before .before .before .before .before .before .loop .at) (edgeColumns (a .size) (a .vertical)) ≡ 8 * c .before .before .before .before .before .before .before .loop .at = omega arith in
-    let then-at : 8 * c .before .before .before .before .before .before .before .loop .at + n ≡ min (8 * (c .before .before .before .before .before .before .before .loop .at + 1)) (edgeColumns (a .size) (a .vertical)) =
-    elim (decLt n 8) [ yes less ↦ omega (arith, all less) | no more ↦ omega (arith, c .before .before .before .before .run-length .ensures .0) ] in (
+    let n = run-length .result in
+    let fits = rw e at (run-length .ensures .1) in
+    let all = rw e at (run-length .ensures .3) in
+    let now-at : min (8 * loop .at) (edgeColumns (a .size) (a .vertical)) ≡ 8 * loop .at = omega arith in
+    let then-at : 8 * loop .at + n ≡ min (8 * (loop .at + 1)) (edgeColumns (a .size) (a .vertical)) =
+    elim (decLt n 8) [ yes less ↦ omega (arith, all less) | no more ↦ omega (arith, run-length .ensures .0) ] in (
       omega arith,
-      rw (c .before .before .before .before .before .before .before .before .row-start .ensures) at (c .before .before .fill-run .ensures)
-          ∙ ap (fill (tracedBit (s + 8 * c .before .before .before .before .before .before .before .loop .at) (c .before .before .before .before .before .stick-byte .result)) (s + 8 * c .before .before .before .before .before .before .before .loop .at) n) (c .before .before .before .before .before .before .before .loop .inv .1 ∙ ap (λ (k : ℕ). fill f s k (a .table .now)) now-at)
-          ∙ run-more L (given .0 .whole .sized) (a .vertical) (a .row) (given .1 .1) (c .before .before .before .before .before .before .before .loop .at) (c .before .before .before .before .before .stick-byte .result) n (c .before .before .before .before .before .stick-byte .ensures) (c .before .before .before .before .run-length .ensures .0) fits (a .table .now)
+      rw (row-start .ensures) at (c .before .before .fill-run .ensures)
+          ∙ ap (fill (tracedBit (s + 8 * loop .at) (stick-byte .result)) (s + 8 * loop .at) n) (loop .inv .1 ∙ ap (λ (k : ℕ). fill f s k (a .table .now)) now-at)
+          ∙ run-more L (given .0 .whole .sized) (a .vertical) (a .row) (given .1 .1) (loop .at) (stick-byte .result) n (stick-byte .ensures) (run-length .ensures .0) fits (a .table .now)
           ∙ ap (λ (k : ℕ). fill f s k (a .table .now)) then-at,
     )
 
@@ -103,12 +113,14 @@ same-length c = ap length (c .before .loop .inv .1) ∙ length-fill _ _ _ _
 
 returns : tie.Need-returns Inv-loop μ-loop
 returns c =
-    let a = c .before .before .before .before .before .before .args in
+    let start = c .before .before .before .before .before .before in
+    let loop = c .before .loop in
+    let a = start .args in
     let L = layerOf (a .size) (a .bitmap .now) in
-    let given = c .before .before .before .before .before .before .pre in
+    let given = start .pre in
     let e = c .before .before .before .edge-columns .ensures in
-    let all : min (8 * c .before .loop .at) (edgeColumns (a .size) (a .vertical)) ≡ edgeColumns (a .size) (a .vertical) = omega arith in
-    c .before .loop .inv .1 ∙ ap (λ (k : ℕ). fill (tracedEntry L) (rowStart (a .size) (a .vertical) (a .row)) k (a .table .now)) all
+    let all : min (8 * loop .at) (edgeColumns (a .size) (a .vertical)) ≡ edgeColumns (a .size) (a .vertical) = omega arith in
+    loop .inv .1 ∙ ap (λ (k : ℕ). fill (tracedEntry L) (rowStart (a .size) (a .vertical) (a .row)) k (a .table .now)) all
 
 pub fill-row-spec : {M : Type 1} → statement M
 fill-row-spec =

@@ -32,7 +32,9 @@ mul-table c = search needs
 
 slice-write-table : tie.Need-slice-write-table Inv-loop μ-loop
 slice-write-table c =
-    let same = ap length (c .before .before .loop .inv .1) ∙ length-fill _ (c .before .before .before .before .args .start) (c .before .before .loop .b) (c .before .before .before .before .args .table .now) in
+    let start = c .before .before .before .before in
+    let loop = c .before .before .loop in
+    let same = ap length (loop .inv .1) ∙ length-fill _ (start .args .start) (loop .b) (start .args .table .now) in
     omega arith
 
 add-b : tie.Need-add-b Inv-loop μ-loop

@@ -22,11 +22,13 @@ same-length c = search needs
 
 returns : tie.Need-returns
 returns c =
-    let a = c .before .before .before .before .before .before .before .before .before .before .args in
+    let start = c .before .before .before .before .before .before .before .before .before .before in
+    let fill-kind = c .before .before .before .before .before .before .fill-kind in
+    let a = start .args in
     let L = layerOf (a .size) (a .bitmap .now) in
-    let given = c .before .before .before .before .before .before .before .before .before .before .pre in
+    let given = start .pre in
     c .before .before .fill-kind2 .ensures
-    ∙ ap (fill (tracedEntry L) (kindStart (a .size) true) (edgeRows (a .size) true * edgeColumns (a .size) true)) (c .before .before .before .before .before .before .fill-kind .ensures)
+    ∙ ap (fill (tracedEntry L) (kindStart (a .size) true) (edgeRows (a .size) true * edgeColumns (a .size) true)) (fill-kind .ensures)
     ∙ kinds-join L (given .0 .whole .sized) (a .table .now)
 
 pub fill-table-spec : {M : Type 1} → statement M

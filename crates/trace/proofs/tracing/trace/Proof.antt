@@ -48,20 +48,23 @@ outcome-is L t answer e =
 
 returns : tie.Need-returns
 returns c =
-    let a = c .before .before .before .before .before .before .before .before .before .args in
+    let start = c .before .before .before .before .before .before .before .before .before in
+    let ask-lengths = c .before .before .before .before .before .before .ask-lengths in
+    let a = start .args in
     let t = a .table .now in
     let L = layerOf (sizeOf (a .w) (a .h)) (a .bitmap .now) in
-    let e = sym (c .before .before .before .before .before .before .ask-lengths .ensures) ∙ c .before .before .before .before .enum-told .given .1 in
+    let e = sym (ask-lengths .ensures) ∙ c .before .before .before .before .enum-told .given .1 in
     ap (λ (s : List ℕ). record { refusal = 0; place = 0; table = s })
     (c .before .before .fill-table .ensures ∙ fill-all (tracedEntry L) (edgeCount (L .size)) t (lengths-of L (length t) e .1))
     ∙ sym (outcome-is L t Yes e)
 
 returns-2 : tie.Need-returns-2
 returns-2 c =
+    let answer = c .before .answer in
     let a = c .before .before .before .before .before .before .args in
     let t = a .table .now in
     let L = layerOf (sizeOf (a .w) (a .h)) (a .bitmap .now) in
-    sym (outcome-is L t (No (c .before .answer .given .0 .0) (c .before .answer .given .0 .1 .0)) (sym (c .before .before .before .ask-lengths .ensures) ∙ c .before .answer .given .1))
+    sym (outcome-is L t (No (answer .given .0 .0) (answer .given .0 .1 .0)) (sym (c .before .before .before .ask-lengths .ensures) ∙ answer .given .1))
 
 pub trace-spec : {M : Type 1} → statement M
 trace-spec =
