@@ -5,7 +5,7 @@ use Prim.Native.Nat.{ℕ, _<_}
 use native.Mathlib.Omega.{arith}
 use lib.Dec.{T, eqb, eqb→eq}
 use Rattle.arith.specs.Booleans.{one-le, all, at-all, and-T, beq→eq, implied}
-use Rattle.grid.specs.Cells.{Corners, cut, diagonal, partner, index, sideIndex, sideAt, linkedTo}
+use Rattle.grid.specs.Cells.{Corners, cut, diagonal, atInsideEnd, partner, index, sideIndex, sideAt, linkedTo}
 use Rattle.grid.specs.declared.cell.Side.{Side}
 use Rattle.grid.specs.declared.cell.Side.the-variants.{South, East, North, West}
 
@@ -66,6 +66,14 @@ partner-cut k s = beq→eq _ _ (at (λ k s. Bool·beq (cut k (partner k s)) (cut
 pub partner-other : (k : Corners) (s : Side) → sameSide (partner k s) s ≡ not (cut k s)
 unfolding xor
 partner-other k s = beq→eq _ _ (at (λ k s. Bool·beq (sameSide (partner k s) s) (not (cut k s))) tt k s)
+
+-- on a diagonal each inside corner is cut off alone: a side is linked to the one that meets it at its inside end, at no other corner
+pub partner-corner : (k : Corners) (s : Side) → diagonal k ≡ true → partner k s ≡ atInsideEnd k s
+unfolding xor
+partner-corner k s h =
+    same-side (partner k s) (atInsideEnd k s)
+    (implied (diagonal k) (sameSide (partner k s) (atInsideEnd k s))
+    (at (λ k s. not (diagonal k) || sameSide (partner k s) (atInsideEnd k s)) tt k s) h)
 
 -- the corner on the left of who enters the cell by this side
 abbrev pub left : Corners → Side → Bool
