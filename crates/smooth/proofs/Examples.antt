@@ -1,0 +1,50 @@
+-- The paper's cases on smoothing, by running the definitions.
+use mathlib.Core.Path.{_≡_, refl}
+use mathlib.Core.Bool.{true, false, xor}
+use mathlib.Core.List.{List, [], _∷_}
+use Prim.Native.Nat.{ℕ, zero, suc}
+use Rattle.arith.specs.Ranges.{count}
+use Rattle.grid.specs.Layer.{Layer, layerOf, sample, bit}
+use Rattle.grid.specs.Edges.{number, edgeCount, edgeAt, isStick}
+use Rattle.grid.specs.Walk.{next, prev}
+use Rattle.contour.specs.Walk.{firstsAmong}
+use Rattle.contour.proofs.Examples.{square}
+use Rattle.table.specs.Entries.{entryOf}
+use Rattle.table.specs.Vertices.{offsetAt}
+use Rattle.smooth.specs.Smooth.{pass, smooth}
+
+-- "W 3, H 3, inside (1,1)", and the table with these offsets at "entries 2, 7, 3, 10 in contour order"
+abbrev pub single : Layer
+single = layerOf (square 3) (0 ∷ 2 ∷ 0 ∷ [])
+
+abbrev pub offsets : ℕ → ℕ → ℕ → ℕ → List ℕ
+offsets a b c d = 0 ∷ 0 ∷ a ∷ c ∷ 0 ∷ 0 ∷ 0 ∷ b ∷ 0 ∷ 0 ∷ d ∷ 0 ∷ []
+
+abbrev pub traced : List ℕ
+traced = offsets 128 128 128 128
+
+-- "One pass on it: 179, 179, 77, 77, total 204."
+pub one-pass : pass single traced ≡ record { table = offsets 179 179 77 77; total = 204 }
+unfolding pass firstsAmong number edgeCount edgeAt isStick sample bit next prev xor entryOf offsetAt
+one-pass = refl
+
+-- "Its tenth pass ends at 255, 255, 1, 1, total 0, settled."
+pub tenth-pass : smooth single 50 traced ≡ record { table = offsets 255 255 1 1; passes = 10; total = 0; settled = true }
+unfolding smooth firstsAmong number edgeCount edgeAt isStick sample bit next prev xor entryOf offsetAt count
+tenth-pass = refl
+
+-- "Limit 9: total 4, not settled."
+pub nine-passes : smooth single 9 traced ≡ record { table = offsets 255 255 1 1; passes = 9; total = 4; settled = false }
+unfolding smooth firstsAmong number edgeCount edgeAt isStick sample bit next prev xor entryOf offsetAt count
+nine-passes = refl
+
+-- "Limit 0: 0 passes, total 0, limit."
+pub no-pass : smooth single 0 traced ≡ record { table = traced; passes = 0; total = 0; settled = false }
+unfolding smooth edgeCount edgeAt isStick sample bit xor count
+no-pass = refl
+
+-- "No inside sample: 0 passes, settled.", with any limit, 0 too
+pub no-vertices : (limit : ℕ) → smooth (layerOf (square 3) (0 ∷ 0 ∷ 0 ∷ [])) limit (offsets 0 0 0 0) ≡ record { table = offsets 0 0 0 0; passes = 0; total = 0; settled = true }
+unfolding smooth edgeCount edgeAt isStick sample bit xor count
+no-vertices zero = refl
+no-vertices (suc limit) = refl

@@ -1,0 +1,53 @@
+-- The new offset of a vertex whose neighbours lie strictly on different sides of its stick's line and within the stick's length along it:
+-- the rounded fraction, and 1 to 255 again.
+use mathlib.Core.Path.{_≡_}
+use Prim.Native.Nat.{ℕ, _+_, _*_, _-_, _≤_, _<_}
+use native.Mathlib.Omega.{arith}
+use lib.IntN.{ℤ, pos, natAbs, _+ℤ_}
+use lib.Signed.{_≤ℤ_}
+use Rattle.arith.specs.Integers.{ints, at, viaℕ, toℕ, arithℤ, natAbs-parts, up}
+use Rattle.grid.specs.declared.edge.Edge.{Edge}
+use Rattle.chord.specs.Points.{Position}
+use Rattle.chord.specs.Crossing.{along, base, meeting, total}
+use Rattle.chord.proofs.Meetings.{sides→parted, total-some}
+use Rattle.smooth.specs.Offset.{rounded, spread, shift, upon, newOffset}
+use Rattle.smooth.proofs.Rounding.{rounded-inside}
+use Rattle.smooth.proofs.Meeting.{Apart, spread-is, shift-is, meeting-inside}
+
+-- v - o is n / t and b + v is m / t, so v is (m - b·t) / t
+from-base : (b o t m : ℕ) (n : ℤ) → pos ((b + o) * t) +ℤ n ≡ pos m → b * t ≤ m → pos (o * t) +ℤ n ≡ pos (m - b * t)
+from-base b o t m n e l = viaℕ (search (ints, at n)) (omega (arith, toℕ e (search (ints, at n))))
+
+-- an integer of 1 to 255 as a natural
+as-natural : (z : ℤ) → pos 1 ≤ℤ z → z ≤ℤ pos 255 → (pos (up z) ≡ z) × (1 ≤ up z) × (up z ≤ 255)
+as-natural z l h = (omega (arithℤ, natAbs-parts z), omega (arithℤ, natAbs-parts z), omega (arithℤ, natAbs-parts z))
+
+-- an offset of a vertex: "A vertex lies at offset 1 to 255"
+pub record Inside (n : ℕ) : Type 0 where
+  pub low : 1 ≤ n
+  pub high : n ≤ 255
+
+module _ (p q : Position) (e : Edge) (old : ℕ) (apart : Apart p q e) where
+  pub spread-some : 0 < natAbs (spread p q e)
+  spread-some = omega (arith, spread-is p q e old apart, total-some p q e (sides→parted p q e apart))
+
+  module _ (lp : base e ≤ along e p) (hp : along e p ≤ base e + 256) (lq : base e ≤ along e q) (hq : along e q ≤ base e + 256) (inside : Inside old) where
+    new-both : (pos (newOffset p q e old) ≡ rounded old (upon (shift p q e old) (spread p q e)) (natAbs (spread p q e)))
+        × (1 ≤ newOffset p q e old)
+        × (newOffset p q e old ≤ 255)
+    unfolding newOffset
+    new-both =
+        let t = total p q e in
+        let n = upon (shift p q e old) (spread p q e) in
+        let m = meeting-inside p q e old lp hp lq hq in
+        let b = from-base (base e) old t (meeting p q e) n (shift-is p q e old apart) (m .0) in
+        let i = rounded-inside old n (natAbs (spread p q e)) spread-some (meeting p q e - base e * t)
+        (rw (spread-is p q e old apart) b) (rw (spread-is p q e old apart) (omega arith)) (inside .low) (inside .high) in
+        as-natural _ (i .0) (i .1)
+
+    -- it is the rounded fraction
+    pub new-is : pos (newOffset p q e old) ≡ rounded old (upon (shift p q e old) (spread p q e)) (natAbs (spread p q e))
+    new-is = new-both .0
+
+    pub new-inside : Inside (newOffset p q e old)
+    new-inside = record { low = new-both .1; high = new-both .2 }

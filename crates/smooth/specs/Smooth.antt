@@ -1,0 +1,98 @@
+-- The call Smooth: the step at one vertex, a pass over one contour and over the layer, and passes until smoothing is settled or the limit
+-- is reached. Every definition computes: a test that runs `smooth` says `unfolding smooth`, which opens all of this crate's that it is made of.
+use mathlib.Core.Bool.{Bool, true, false}
+use mathlib.Core.List.{List, foldl}
+use Prim.Native.Nat.{ℕ, zero, suc, _+_, _*_}
+use lib.Dec.{eqb, ltb}
+use lib.ListN.{getD, set}
+use Rattle.grid.specs.Layer.{Layer}
+use Rattle.grid.specs.Edges.{number, edgeCount}
+use Rattle.grid.specs.Walk.{next, prev}
+use Rattle.grid.specs.Counts.{stickCount}
+use Rattle.grid.specs.Questions.{askEach}
+use Rattle.grid.specs.declared.edge.Edge.{Edge}
+use Rattle.grid.specs.declared.question.Refusal.the-variants as Refusal
+use Rattle.grid.specs.declared.question.Answer.{Answer}
+use Rattle.contour.specs.Contours.{contoursOf}
+use Rattle.chord.specs.Points.{Position, position}
+use Rattle.chord.specs.Crossing.{distance}
+use Rattle.table.specs.Entries.{entryOf}
+use Rattle.table.specs.Vertices.{isRemoved, offsetAt}
+use Rattle.smooth.specs.Offset.{newOffset}
+
+-- "15. For Smooth and Simplify: is every vertex kept? (lowest removed entry)"
+abbrev pub isRemovedAt : List ℕ → ℕ → Bool
+isRemovedAt t k = isRemoved (entryOf (getD t k 0))
+
+unfoldable pub allKeptAnswer : Layer → List ℕ → Answer
+allKeptAnswer L t = askEach Refusal.SomeRemoved (isRemovedAt t) (edgeCount (L .size))
+
+-- "A vertex, kept or removed, lies on its stick at the offset its entry gives."
+abbrev pub vertexAt : Layer → List ℕ → Edge → Position
+vertexAt L t e = position e (offsetAt L t e)
+
+-- the new offset of the vertex of a stick in a table whose vertices are all kept, from "its neighbours as they then are"
+abbrev pub smoothedAt : Layer → List ℕ → Edge → ℕ
+smoothedAt L t e = newOffset (vertexAt L t (prev L e)) (vertexAt L t (next L e)) e (offsetAt L t e)
+
+-- what a pass has come to: the table, and "the sum of the absolute changes"
+pub record Pass : Type 0 where
+  pub table : List ℕ
+  pub total : ℕ
+
+-- the step at one vertex
+unfoldable pub visit : Layer → Pass → Edge → Pass
+unfolding newOffset
+visit L s e =
+    let old : ℕ = offsetAt L (s .table) e in
+    let new : ℕ = smoothedAt L (s .table) e in
+    record { table = set (s .table) (number (L .size) e) new; total = s .total + distance old new }
+
+-- a pass over one contour, the list of its sticks in walk order (it changes no entry of another: proofs/Locality.antt)
+unfoldable pub passContour : Layer → Pass → List Edge → Pass
+unfolding visit
+passContour L s contour = foldl (visit L) s contour
+
+-- "a pass visits vertices in contour order, each using its neighbours as they then are"
+unfoldable pub pass : Layer → List ℕ → Pass
+unfolding passContour
+pass L t = foldl (passContour L) (record { table = t; total = 0 }) (contoursOf L)
+
+-- the number of vertices: each stick carries one
+abbrev pub vertexCount : Layer → ℕ
+vertexCount L = stickCount L
+
+-- "Smoothing is settled after a pass with 1000×total < 256×vertices, taken over the layer"
+unfoldable pub isSettled : ℕ → ℕ → Bool
+isSettled total vertices = ltb (1000 * total) (256 * vertices)
+
+-- where smoothing stands, which is also its answer: "The answer is passes, last total (0 if none) and settled or limit"
+pub record Smoothed : Type 0 where
+  pub table : List ℕ
+  pub passes : ℕ
+  pub total : ℕ
+  pub settled : Bool
+
+-- "or before any pass if there are no vertices"
+abbrev pub unsmoothed : ℕ → List ℕ → Smoothed
+unsmoothed vertices t = record { table = t; passes = 0; total = 0; settled = eqb vertices 0 }
+
+-- Smoothing, by what a pass does to a table and how many vertices it visits
+module _ (onePass : List ℕ → Pass) (vertices : ℕ) where
+  -- one pass more
+  unfoldable pub further : Smoothed → Smoothed
+  unfolding isSettled
+  further s =
+      let p : Pass = onePass (s .table) in
+      record { table = p .table; passes = s .passes + 1; total = p .total; settled = isSettled (p .total) vertices }
+
+  -- "Otherwise it goes on until the limit": at most n passes more. "settled wins if both hold"
+  unfoldable pub until : ℕ → Smoothed → Smoothed
+  unfolding further
+  until zero s = s
+  until (suc n) s = elim (s .settled) [ true ↦ s | false ↦ until n (further s) ]
+
+-- Smooth, with a pass limit, on a layer and a table that pass its questions: 1 to 7, and 15
+unfoldable pub smooth : Layer → ℕ → List ℕ → Smoothed
+unfolding pass until
+smooth L limit t = until (pass L) (vertexCount L) limit (unsmoothed (vertexCount L) t)

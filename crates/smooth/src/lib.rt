@@ -1,0 +1,1 @@
+// The call Smooth: its definitions are in specs/, their laws in proofs/.
