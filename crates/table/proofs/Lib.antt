@@ -1,3 +1,4 @@
 -- Laws on the definitions of specs/ that the proofs of this crate cite.
 pub mod Runs
 pub mod Lengths
+pub mod Gaps

@@ -1,0 +1,72 @@
+-- The drawn edges of a contour, in the order of the walk: each begins where the one before ended, and the last ends where the first began.
+use mathlib.Core.Path.{_≡_, refl, sym, subst, _∙_}
+use mathlib.Core.Bool.{Bool, true, false, cond}
+use mathlib.Core.List.{List, _∷_}
+use Prim.Native.Nat.{ℕ, zero, suc}
+use lib.ListN.{length}
+use Rattle.arith.specs.Booleans.{both-sides}
+use Rattle.grid.specs.Layer.{Layer}
+use Rattle.grid.specs.Edges.{isStick}
+use Rattle.grid.specs.Questions.{Sound}
+use Rattle.grid.specs.Walk.{next}
+use Rattle.grid.specs.declared.edge.Edge.{Edge}
+use Rattle.grid.proofs.Walks.{next-stick}
+use Rattle.contour.specs.Walk.{first, On}
+use Rattle.contour.specs.Contours.{walkOf, contourOf}
+use Rattle.contour.proofs.Orbit.{ahead, run, round, contour-run}
+use Rattle.contour.proofs.First.{first-one}
+use Rattle.contour.proofs.Sticks.{laws}
+use Rattle.table.specs.Vertices.{keptAt, removedAt, nextKept}
+use Rattle.table.proofs.Gaps.{not-both}
+use Rattle.held.specs.Faithful.{drawnAmong, Leads, ContourClosed}
+use Rattle.held.proofs.Vertices.{Vertices, kept-of, next-over, next-here}
+use Rattle.held.proofs.HeldFacts.{HeldFacts}
+
+-- the first kept vertex from a stick on
+abbrev fromHere : Layer → List ℕ → Edge → Edge
+fromHere L t x = cond (keptAt L t x) x (nextKept L t x)
+
+module _ (L : Layer) (t : List ℕ) (sound : Sound L) (vertices : Vertices L t) (held : HeldFacts L t) where
+  -- the next kept vertex is the first from the next stick on
+  after : (x : Edge) → isStick L x ≡ true → nextKept L t x ≡ fromHere L t (next L x)
+  after x stick = both-sides (removedAt L t (next L x))
+      (λ r. next-over L t sound vertices x (s .0) stick (s .1) (s .2) r ∙ skipped r)
+      (λ r. next-here L t sound vertices x (s .0) stick (s .1) (s .2) r
+      ∙ rw (kept-of L t sound vertices (next L x) (next-stick L sound x stick) r .kept))
+    where
+      s : (y : Edge) × On (walkOf L) x y × (keptAt L t y ≡ true)
+      s = held .some-kept x stick
+
+      skipped : removedAt L t (next L x) ≡ true → nextKept L t (next L x) ≡ fromHere L t (next L x)
+      skipped r = both-sides (keptAt L t (next L x)) (λ k. absurd (not-both L t (next L x) k r)) (λ k. rw k)
+
+  leads : (n : ℕ) (x : Edge) → isStick L x ≡ true
+      → Leads (fromHere L t x) (drawnAmong L t (run (walkOf L) n x)) (fromHere L t (ahead (walkOf L) n x))
+  unfolding run ahead
+  leads zero x stick = refl
+  leads (suc n) x stick =
+      go (keptAt L t x) refl
+      (subst (λ (a : Edge). Leads a (drawnAmong L t (run (walkOf L) n (next L x))) (fromHere L t (ahead (walkOf L) n (next L x)))) (sym (after x stick))
+      (leads n (next L x) (next-stick L sound x stick)))
+    where
+      go : (b : Bool) → keptAt L t x ≡ b
+          → Leads (nextKept L t x) (drawnAmong L t (run (walkOf L) n (next L x))) (fromHere L t (ahead (walkOf L) n (next L x)))
+          → Leads (fromHere L t x) (drawnAmong L t (x ∷ run (walkOf L) n (next L x))) (fromHere L t (ahead (walkOf L) n (next L x)))
+      go true k l = rw k (refl, l)
+      go false k l = rw k l
+
+  pub contour-closed : (f : Edge) → first (walkOf L) f ≡ true → ContourClosed L t f
+  contour-closed f h =
+      let law = laws L sound in
+      let stick = first-one (walkOf L) law f h in
+      let r = round (walkOf L) law f stick in
+      let n = length (contourOf L f) in
+      let whole = leads n f stick in
+      record {
+        three = held .three f h;
+        returns = r;
+        begin = fromHere L t f;
+        comes-back =
+            subst (λ (e : Edge). Leads (fromHere L t f) (drawnAmong L t (contourOf L f)) (fromHere L t e)) (r .back)
+            (subst (λ (l : List Edge). Leads (fromHere L t f) (drawnAmong L t l) (fromHere L t (ahead (walkOf L) n f))) (sym (contour-run (walkOf L) law f stick)) whole);
+      }

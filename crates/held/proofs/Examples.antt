@@ -1,0 +1,91 @@
+-- `Faithful` holds of the traced single sample of the paper, and is refused by three wrong tables for it: a drawn edge over a sample, a contour
+-- with two kept vertices, and a stick without a vertex.
+use mathlib.Core.Path.{_≡_, refl, ap}
+use mathlib.Core.Bool.{Bool, true, false, xor}
+use mathlib.Core.List.{List, [], _∷_}
+use Prim.Native.Nat.{ℕ, _+_, _*_, _<_}
+use native.Mathlib.Omega.{arith}
+use lib.IntN.{pos, natAbs}
+use Rattle.arith.specs.Booleans.{asNumber}
+use Rattle.arith.specs.Ranges.{leastFrom}
+use Rattle.grid.specs.Layer.{Layer, layerOf, sizeOf, sample, bit}
+use Rattle.grid.specs.Edges.{number, edgeCount, edgeAt, isStick}
+use Rattle.grid.specs.Questions.{sidesAnswer, lengthAnswer, spareAnswer, borderAnswer}
+use Rattle.grid.specs.Walk.{next, prev}
+use Rattle.grid.specs.declared.edge.Edge.{Edge}
+use Rattle.contour.specs.Walk.{firstsAmong}
+use Rattle.chord.specs.Points.{Position, start, end, Point, point, On}
+use Rattle.chord.proofs.Weights.{weights→on}
+use Rattle.table.specs.Entries.{entryOf, entriesAnswer, tableLengthAnswer}
+use Rattle.table.specs.Vertices.{keptAt, removedAt, offsetAt, removedFrom, keptFrom, nextKept}
+use Rattle.held.specs.Held.{vertex, edgeCrosses, heldContour, heldAnswer}
+use Rattle.held.specs.Faithful.{Faithful, Drawn, Passes}
+use Rattle.held.proofs.Faithful.{passed-is-faithful}
+
+-- "W 3, H 3, inside (1,1)", with the four entries of its sticks, by number: 2, 3, 7 and 10
+abbrev pub single : Layer
+single = layerOf (sizeOf 3 3) (0 ∷ 2 ∷ 0 ∷ [])
+
+abbrev pub entries : ℕ → ℕ → ℕ → ℕ → List ℕ
+entries a b c d = 0 ∷ 0 ∷ a ∷ b ∷ 0 ∷ 0 ∷ 0 ∷ c ∷ 0 ∷ 0 ∷ d ∷ 0 ∷ []
+
+abbrev edge : Bool → ℕ → ℕ → Edge
+edge v c r = record { vertical = v; column = c; row = r }
+
+pub traced-is-faithful : Faithful single (entries 128 128 128 128)
+unfolding sidesAnswer lengthAnswer spareAnswer borderAnswer tableLengthAnswer entriesAnswer heldAnswer heldContour edgeCrosses
+    firstsAmong number edgeCount edgeAt isStick sample bit next prev xor leastFrom keptAt removedAt offsetAt removedFrom keptFrom entryOf
+traced-is-faithful = passed-is-faithful single (entries 128 128 128 128) refl
+
+-- the points of the segment from p to q by their weights
+mean : (α β : ℕ) (p q : Position) (z : Point) → z .x ≡ pos (natAbs (z .x)) → z .y ≡ pos (natAbs (z .y)) → 0 < α + β
+    → natAbs (z .x) * (α + β) ≡ (α * p .x + β * q .x) * z .d → natAbs (z .y) * (α + β) ≡ (α * p .y + β * q .y) * z .d → On z p q
+mean α β p q z fx fy n ex ey =
+    weights→on (record {
+      is-plain = record { x-plain = fx; y-plain = fy };
+      α = α;
+      β = β;
+      some = n;
+      is-mean = record { x-is = ex; y-is = ey };
+    })
+
+-- with the vertex below the sample removed, the drawn edge from the left to the right runs over the sample: the point and the sample
+-- are both on it and on the stick
+pub over-sample : Faithful single (entries 128 128 384 128) → ⊥
+unfolding isStick sample bit xor keptAt removedAt offsetAt keptFrom entryOf number edgeCount next
+over-sample f =
+    let e = edge false 0 1 in
+    let t = entries 128 128 384 128 in
+    let d : Drawn single t e = record { stick = refl; kept = refl } in
+    let z : Point = point (record { x = 128; y = 256 }) in
+    let w : Point = point (record { x = 256; y = 256 }) in
+    let P = vertex single t e in
+    let Q = vertex single t (nextKept single t e) in
+    let at-z : Passes single t e z = record {
+      from = e;
+      drawn = d;
+      on-drawn = mean 1 0 P Q z refl refl (omega arith) refl refl;
+      on-segment = mean 1 1 (start e) (end e) z refl refl (omega arith) refl refl;
+    } in
+    let at-w : Passes single t e w = record {
+      from = e;
+      drawn = d;
+      on-drawn = mean 1 1 P Q w refl refl (omega arith) refl refl;
+      on-segment = mean 0 1 (start e) (end e) w refl refl (omega arith) refl refl;
+    } in
+    let s = f .passes-once e refl refl z w at-z at-w in
+    let n : _≡_ {A = ℕ} 128 256 = ap natAbs (s .same-x) in
+    omega arith
+
+-- two kept vertices are too few
+pub two-kept : Faithful single (entries 128 128 384 384) → ⊥
+unfolding firstsAmong number edgeCount edgeAt isStick sample bit next prev xor keptAt entryOf
+two-kept f = let c = f .closed (edge false 0 1) refl .three in omega arith
+
+-- a stick without a vertex
+pub no-vertex : Faithful single (entries 128 128 0 128) → ⊥
+unfolding isStick sample bit xor keptAt removedAt entryOf number
+no-vertex f =
+    let v = f .vertices (edge true 1 0) refl .kept-or-removed in
+    let n : _≡_ {A = ℕ} 0 1 = ap asNumber v in
+    omega arith

@@ -1,0 +1,66 @@
+-- When question 7 is answered yes: if each drawn edge crosses every removed stick between its ends, and each contour has a kept vertex. That
+-- each contour has three follows (FourKept). So a table that removes nothing is held.
+use mathlib.Core.Path.{_≡_, refl, ap}
+use mathlib.Core.Bool.{Bool, true, false, not, _||_, or-true}
+use mathlib.Core.List.{List, [], _∷_}
+use Prim.Native.Nat.{ℕ, _<_}
+use native.Mathlib.Omega.{arith}
+use borrow.Author.Tests.{le-leb}
+use Rattle.arith.specs.Booleans.{asNumber, both-sides}
+use Rattle.grid.specs.Layer.{Layer}
+use Rattle.grid.specs.Edges.{isStick}
+use Rattle.grid.specs.Questions.{Sound}
+use Rattle.grid.specs.declared.edge.Edge.{Edge}
+use Rattle.grid.specs.declared.question.Answer.the-variants.{Yes}
+use Rattle.contour.specs.Walk.{first, occurrences, On}
+use Rattle.contour.specs.Contours.{walkOf, contourOf, firstSticks}
+use Rattle.contour.proofs.First.{first-one}
+use Rattle.contour.proofs.Members.{on-one, on-self}
+use Rattle.contour.proofs.Sticks.{laws, same-self}
+use Rattle.contour.proofs.Theorems.{first-sticks-only}
+use Rattle.table.specs.Vertices.{keptAt, removedAt}
+use Rattle.held.specs.Held.{each, among, edgeCrosses, heldContour, firstUnheld, heldAnswer}
+use Rattle.held.specs.Faithful.{Drawn}
+use Rattle.held.proofs.Vertices.{Vertices, kept-of}
+use Rattle.held.proofs.FourKept.{four-kept, nothing-crossed}
+
+module _ (L : Layer) where
+  -- a test that holds of all that occurs in a list
+  pub each-all : (g : Edge → Bool) (l : List Edge) → ((y : Edge) → 0 < occurrences (walkOf L) y l → g y ≡ true) → each g l ≡ true
+  unfolding occurrences
+  each-all g [] h = refl
+  each-all g (x ∷ l) h =
+      rw (h x (omega (arith, ap asNumber (same-self x)))) (each-all g l (λ y o. h y (omega arith)))
+
+  pub held-all : (t : List ℕ) (l : List Edge) → ((f : Edge) → 0 < occurrences (walkOf L) f l → heldContour L t f ≡ true) → firstUnheld L t l ≡ Yes
+  unfolding occurrences
+  held-all t [] h = refl
+  held-all t (x ∷ l) h =
+      rw (h x (omega (arith, ap asNumber (same-self x)))) (held-all t l (λ f o. h f (omega arith)))
+
+module _ (L : Layer) (t : List ℕ) (sound : Sound L) (vertices : Vertices L t) where
+  -- a contour with a kept vertex whose drawn edges cross is held
+  pub contour-held : (f : Edge) → isStick L f ≡ true → (x : Edge) → On (walkOf L) f x → keptAt L t x ≡ true
+      → ((p : Edge) → On (walkOf L) f p → Drawn L t p → edgeCrosses L t p ≡ true) → heldContour L t f ≡ true
+  unfolding heldContour
+  contour-held f stick x on kept over =
+      let four = four-kept L t sound vertices f stick x on kept over in
+      let all = each-all L (λ e. not (keptAt L t e) || edgeCrosses L t e) (contourOf L f) (λ p o. both-sides (keptAt L t p)
+      (λ k. rw (over p o (record { stick = on-one (walkOf L) (laws L sound) f p stick o; kept = k }), or-true))
+      (λ n. rw n)) in
+      rw (le-leb 3 (among (keptAt L t) (contourOf L f)) (omega (arith, four)), all)
+
+  pub layer-held : ((p : Edge) → Drawn L t p → edgeCrosses L t p ≡ true)
+      → ((f : Edge) → first (walkOf L) f ≡ true → (x : Edge) × On (walkOf L) f x × (keptAt L t x ≡ true)) → heldAnswer L t ≡ Yes
+  unfolding heldAnswer
+  layer-held over some = held-all L t (firstSticks L) (λ f o.
+      let h = first-sticks-only L sound f o in
+      let k = some f h in
+      contour-held f (first-one (walkOf L) (laws L sound) f h) (k .0) (k .1) (k .2) (λ p _ d. over p d))
+
+  -- a table that removes nothing
+  pub kept-held : ((e : Edge) → isStick L e ≡ true → removedAt L t e ≡ false) → heldAnswer L t ≡ Yes
+  kept-held none =
+      layer-held (λ p d. nothing-crossed L t sound none p (d .stick)) (λ f h.
+      let stick = first-one (walkOf L) (laws L sound) f h in
+      (f, on-self (walkOf L) (laws L sound) f stick, kept-of L t sound vertices f stick (none f stick) .kept))

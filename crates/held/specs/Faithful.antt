@@ -1,0 +1,92 @@
+-- What a held layer is shown to be: the end of demand 3, sentence by sentence, over all points X, Y, D ('Samples and sticks').
+-- proofs/Faithful.antt has the theorem that a layer that passes questions 1 to 7 is faithful.
+use mathlib.Core.Path.{_≡_}
+use mathlib.Core.Logic.{_⊎_, _≢_}
+use mathlib.Core.Bool.{true, false, _||_}
+use mathlib.Core.List.{List, [], _∷_}
+use Prim.Native.Nat.{ℕ, _≤_, _<_}
+use lib.ListN.{length}
+use Rattle.grid.specs.Layer.{Layer}
+use Rattle.grid.specs.Edges.{inGrid, isStick}
+use Rattle.grid.specs.declared.edge.Edge.{Edge}
+use Rattle.contour.specs.Walk.{first, occurrences, consIf}
+use Rattle.contour.specs.Contours.{walkOf, contourOf}
+use Rattle.contour.proofs.Orbit.{Round}
+use Rattle.chord.specs.Points.{start, end, Point, point, Same, On, Crosses}
+use Rattle.table.specs.Vertices.{keptAt, removedAt, offsetAt, gapAfter, nextKept}
+use Rattle.held.specs.Held.{among, vertex}
+
+-- "A drawn edge joins two kept vertices with only removed ones between." It is named by the stick of the kept vertex where it starts.
+pub record Drawn (L : Layer) (t : List ℕ) (p : Edge) : Type 0 where
+  pub stick : isStick L p ≡ true
+  pub kept : keptAt L t p ≡ true
+
+-- u is one of the removed sticks between its ends
+abbrev pub Between : Layer → List ℕ → Edge → Edge → Type 0
+Between L t p u = 0 < occurrences (walkOf L) u (gapAfter L t p)
+
+-- "A layer is held if each contour has three kept vertices or more and each drawn edge crosses every removed stick between its ends": said
+-- over points. Question 7 (Held.antt), which computes, asks exactly this (proofs/Meaning.antt).
+pub record HeldLayer (L : Layer) (t : List ℕ) : Type 0 where
+  pub three : (f : Edge) → first (walkOf L) f ≡ true → 3 ≤ among (keptAt L t) (contourOf L f)
+  pub crossed : (p u : Edge) → Drawn L t p → Between L t p u → Crosses (vertex L t p) (vertex L t (nextKept L t p)) u
+
+-- the point z lies on the drawn edge that starts at p, its ends included
+abbrev pub OnDrawn : Layer → List ℕ → Edge → Point → Type 0
+OnDrawn L t p z = On z (vertex L t p) (vertex L t (nextKept L t p))
+
+-- the drawn edges of the kept ones among some sticks, in their order: from which stick to which
+pub record Ends : Type 0 where
+  pub from : Edge
+  pub to : Edge
+
+abbrev pub drawnAmong : Layer → List ℕ → List Edge → List Ends
+drawnAmong L t [] = []
+drawnAmong L t (p ∷ l) = consIf (keptAt L t p) (record { from = p; to = nextKept L t p }) (drawnAmong L t l)
+
+-- edges that lead from a to b, each beginning where the one before ended
+abbrev pub Leads : Edge → List Ends → Edge → Type 0
+Leads a [] b = a ≡ b
+Leads a (d ∷ l) b = (d .from ≡ a) × Leads (d .to) l b
+
+-- "A contour is closed if it has three kept vertices or more, its walk comes back to its first stick with no other met twice, and its
+-- drawn edges, each beginning where the one before ended, come back to where the first began."
+pub record ContourClosed (L : Layer) (t : List ℕ) (f : Edge) : Type 0 where
+  pub three : 3 ≤ among (keptAt L t) (contourOf L f)
+  pub returns : Round (walkOf L) f (length (contourOf L f))
+  pub begin : Edge
+  pub comes-back : Leads begin (drawnAmong L t (contourOf L f)) begin
+
+-- "A vertex, kept or removed, lies on its stick at the offset its entry gives": each stick carries one, strictly between its samples
+pub record VertexInside (L : Layer) (t : List ℕ) (e : Edge) : Type 0 where
+  pub kept-or-removed : (keptAt L t e || removedAt L t e) ≡ true
+  pub after-start : 0 < offsetAt L t e
+  pub before-end : offsetAt L t e < 256
+
+-- "Two drawn edges are neighbours if one ends at the kept vertex where the other begins": z is the vertex of q, where the edge from p ends
+pub record AtJoint (L : Layer) (t : List ℕ) (p q : Edge) (z : Point) : Type 0 where
+  pub joined : nextKept L t p ≡ q
+  pub common : Same z (point (vertex L t q))
+
+-- "contours pass between two adjacent samples as often as there are different such points on both a drawn edge and the segment from one
+-- sample to the other": the samples at the ends of the edge e, and z is such a point
+pub record Passes (L : Layer) (t : List ℕ) (e : Edge) (z : Point) : Type 0 where
+  pub from : Edge
+  pub drawn : Drawn L t from
+  pub on-drawn : OnDrawn L t from z
+  pub on-segment : On z (start e) (end e)
+
+pub record Faithful (L : Layer) (t : List ℕ) : Type 0 where
+  -- every contour is closed
+  pub closed : (f : Edge) → first (walkOf L) f ≡ true → ContourClosed L t f
+  -- each vertex, kept or removed, lies strictly inside its stick
+  pub vertices : (e : Edge) → isStick L e ≡ true → VertexInside L t e
+  -- two different drawn edges share no point but the common vertex of neighbours
+  pub apart : (p q : Edge) → Drawn L t p → Drawn L t q → p ≢ q → (z : Point) → OnDrawn L t p z → OnDrawn L t q z
+      → AtJoint L t p q z ⊎ AtJoint L t q p z
+  -- contours pass between two adjacent samples exactly once where they differ,
+  pub passes : (e : Edge) → inGrid (L .size) e ≡ true → isStick L e ≡ true → (z : Point) × Passes L t e z
+  pub passes-once : (e : Edge) → inGrid (L .size) e ≡ true → isStick L e ≡ true
+      → (z w : Point) → Passes L t e z → Passes L t e w → Same z w
+  -- and never where they agree
+  pub passes-never : (e : Edge) → inGrid (L .size) e ≡ true → isStick L e ≡ false → (z : Point) → ¬ Passes L t e z
