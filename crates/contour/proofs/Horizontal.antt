@@ -19,7 +19,8 @@ use Rattle.contour.specs.Contours.{walkOf}
 use Rattle.grid.proofs.Numbers.{in-kind-below}
 use Rattle.grid.proofs.Links.{sameSide}
 use Rattle.grid.proofs.Walks.{inner-column, behind-next, next-stick, next-other}
-use Rattle.contour.proofs.Orbit.{ahead as stepped, ahead-next, ahead-one}
+use Rattle.contour.specs.Walk.{ahead as stepped}
+use Rattle.contour.proofs.Orbit.{ahead-next, ahead-one}
 use Rattle.contour.proofs.Members.{on-ahead, on-one}
 use Rattle.contour.proofs.First.{first-one, first-low, low-le}
 use Rattle.contour.proofs.Sticks.{laws, stick-in}

@@ -12,34 +12,22 @@ use lib.ListN.{length, getD}
 use Rattle.arith.specs.Booleans.{both-sides}
 use Rattle.arith.specs.Finite.{pigeonhole, Least, least-from}
 use Rattle.arith.specs.Ranges.{leastFrom}
-use Rattle.contour.specs.Walk.{Walk, Laws, path, rest, contour}
+use Rattle.contour.specs.Walk.{Walk, Laws, path, rest, contour, ahead, Round}
 
 module _ (w : Walk) where
-  open Walk w using (Element as A, next, many)
-
-  -- the element n steps ahead of x
-  unfoldable pub ahead : ℕ → A → A
-  ahead zero x = x
-  ahead (suc n) x = ahead n (next x)
+  open Walk w using (Element as A, next)
 
   -- the n elements from x on
   unfoldable pub run : ℕ → A → List A
   run zero x = []
   run (suc n) x = x ∷ run n (next x)
 
-  -- the walk from x is back after p steps, and meets nothing twice before
-  pub record Round (x : A) (p : ℕ) : Type 0 where
-    pub some : 0 < p
-    pub within : p ≤ many
-    pub back : ahead p x ≡ x
-    pub apart : (i j : ℕ) → i < j → j < p → ahead i x ≢ ahead j x
-
-  pub ahead-next : (n : ℕ) (x : A) → ahead n (next x) ≡ next (ahead n x)
+  pub ahead-next : (n : ℕ) (x : A) → ahead w n (next x) ≡ next (ahead w n x)
   unfolding ahead
   ahead-next zero x = refl
   ahead-next (suc n) x = ahead-next n (next x)
 
-  pub ahead-add : (m n : ℕ) (x : A) → ahead (m + n) x ≡ ahead n (ahead m x)
+  pub ahead-add : (m n : ℕ) (x : A) → ahead w (m + n) x ≡ ahead w n (ahead w m x)
   unfolding ahead
   ahead-add zero n x = rw zero-add
   ahead-add (suc m) n x = rw suc-add (ahead-add m n (next x))
@@ -49,7 +37,7 @@ module _ (w : Walk) where
   length-run zero x = refl
   length-run (suc n) x = ap suc (length-run n (next x))
 
-  pub getD-run : (n k : ℕ) (x d : A) → k < n → getD (run n x) k d ≡ ahead k x
+  pub getD-run : (n k : ℕ) (x d : A) → k < n → getD (run n x) k d ≡ ahead w k x
   unfolding run ahead
   getD-run zero k x d h = absurd (omega arith)
   getD-run (suc n) zero x d h = refl

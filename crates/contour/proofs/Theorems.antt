@@ -20,7 +20,8 @@ use Rattle.grid.specs.declared.edge.Edge.{Edge}
 use Rattle.contour.specs.Walk.{occurrences, first, low, walked}
 use Rattle.contour.specs.Contours.{walkOf, contourOf, firstSticks, contourCount, earlier}
 use Rattle.grid.proofs.Numbers.{Within, within, in-kind-below}
-use Rattle.contour.proofs.Orbit.{ahead, Round, round, contour-at}
+use Rattle.contour.specs.Walk.{ahead, Round}
+use Rattle.contour.proofs.Orbit.{round, contour-at}
 use Rattle.contour.proofs.Members.{place, on-ahead, in-list}
 use Rattle.contour.proofs.First.{first-one, low-first, low-once, first-unique}
 use Rattle.contour.proofs.Contours.{count-walked, length-walked, length-contours, firsts-ascend, firsts-only, firsts-all}

@@ -2,9 +2,10 @@
 -- edges in the end, and those that count are sticks. The laws that a walk has to keep are the record `Laws`.
 -- Every definition computes: a test that runs `contours` says `unfolding firstsAmong`, which opens all that it is made of.
 use mathlib.Core.Path.{_≡_}
+use mathlib.Core.Logic.{_≢_}
 use mathlib.Core.Bool.{Bool, true, false, _&&_}
 use mathlib.Core.List.{List, [], _∷_, map, flatten}
-use Prim.Native.Nat.{ℕ, zero, suc, _+_, _-_, _<_, min}
+use Prim.Native.Nat.{ℕ, zero, suc, _+_, _-_, _≤_, _<_, min}
 use lib.Dec.{eqb, ltb}
 use Rattle.arith.specs.Booleans.{asNumber}
 use Rattle.arith.specs.Ranges.{leastFrom}
@@ -102,6 +103,18 @@ module _ (w : Walk) where
   -- the least number from p on that is a first element's, or `many` if there is none
   abbrev pub nextFirst : ℕ → ℕ
   nextFirst p = leastFrom (λ k. first (at k)) p (many - p)
+
+  -- the element n steps ahead of x
+  unfoldable pub ahead : ℕ → A → A
+  ahead zero x = x
+  ahead (suc n) x = ahead n (next x)
+
+  -- the walk from x is back after p steps, and meets nothing twice before
+  pub record Round (x : A) (p : ℕ) : Type 0 where
+    pub some : 0 < p
+    pub within : p ≤ many
+    pub back : ahead p x ≡ x
+    pub apart : (i j : ℕ) → i < j → j < p → ahead i x ≢ ahead j x
 
 -- What a walk has to keep: `same` is equality, numbers and elements belong together, and next and previous undo each other. Each law but
 -- those of `same` speaks of elements that count.

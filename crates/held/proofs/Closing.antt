@@ -13,7 +13,8 @@ use Rattle.grid.specs.declared.edge.Edge.{Edge}
 use Rattle.grid.proofs.Walks.{next-stick}
 use Rattle.contour.specs.Walk.{first, On}
 use Rattle.contour.specs.Contours.{walkOf, contourOf}
-use Rattle.contour.proofs.Orbit.{ahead, run, round, contour-run}
+use Rattle.contour.specs.Walk.{ahead}
+use Rattle.contour.proofs.Orbit.{run, round, contour-run}
 use Rattle.contour.proofs.First.{first-one}
 use Rattle.contour.proofs.Sticks.{laws}
 use Rattle.table.specs.Vertices.{keptAt, removedAt, nextKept}

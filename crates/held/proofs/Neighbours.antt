@@ -15,7 +15,8 @@ use Rattle.grid.specs.declared.edge.Edge.{Edge}
 use Rattle.grid.proofs.Walks.{prev-stick, prev-next, next-prev}
 use Rattle.contour.specs.Walk.{On}
 use Rattle.contour.specs.Contours.{walkOf, contourOf}
-use Rattle.contour.proofs.Orbit.{ahead, Round, round, ahead-next, ahead-one}
+use Rattle.contour.specs.Walk.{ahead, Round}
+use Rattle.contour.proofs.Orbit.{round, ahead-next, ahead-one}
 use Rattle.contour.proofs.Members.{place, on-self, on-next, on-swap}
 use Rattle.contour.proofs.Sticks.{laws}
 use Rattle.chord.specs.Crossing.{crosses}

@@ -12,7 +12,8 @@ use Rattle.grid.specs.Walk.{next, prev}
 use Rattle.grid.specs.declared.edge.Edge.{Edge}
 use Rattle.grid.proofs.Walks.{next-stick, prev-next}
 use Rattle.contour.specs.Contours.{walkOf}
-use Rattle.contour.proofs.Orbit.{ahead, ahead-next}
+use Rattle.contour.specs.Walk.{ahead}
+use Rattle.contour.proofs.Orbit.{ahead-next}
 use Rattle.contour.proofs.Members.{on-self}
 use Rattle.contour.proofs.Sticks.{laws}
 use Rattle.chord.specs.Crossing.{crosses}

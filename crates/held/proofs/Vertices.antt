@@ -20,7 +20,8 @@ use Rattle.grid.proofs.Numbers.{number-below, edgeAt-number}
 use Rattle.grid.proofs.Walks.{next-stick}
 use Rattle.contour.specs.Walk.{On}
 use Rattle.contour.specs.Contours.{walkOf, contourOf}
-use Rattle.contour.proofs.Orbit.{ahead, Round, round}
+use Rattle.contour.specs.Walk.{ahead, Round}
+use Rattle.contour.proofs.Orbit.{round}
 use Rattle.contour.proofs.Members.{place}
 use Rattle.contour.proofs.Sticks.{laws, stick-in}
 use Rattle.table.specs.Entries.{entryOf, suits, wrongAt, entriesAnswer}

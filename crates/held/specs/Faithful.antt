@@ -11,7 +11,7 @@ use Rattle.grid.specs.Edges.{inGrid, isStick}
 use Rattle.grid.specs.declared.edge.Edge.{Edge}
 use Rattle.contour.specs.Walk.{first, occurrences, consIf}
 use Rattle.contour.specs.Contours.{walkOf, contourOf}
-use Rattle.contour.proofs.Orbit.{Round}
+use Rattle.contour.specs.Walk.{Round}
 use Rattle.chord.specs.Points.{start, end, Point, point, Same, On, Crosses}
 use Rattle.table.specs.Vertices.{keptAt, removedAt, offsetAt, gapAfter, nextKept}
 use Rattle.held.specs.Held.{among, vertex}
