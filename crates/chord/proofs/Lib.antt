@@ -5,6 +5,7 @@ pub mod EdgePoints
 pub mod Meetings
 pub mod Crossings
 pub mod Slides
+pub mod Tests
 pub mod Order
 pub mod Cells
 pub mod Regions

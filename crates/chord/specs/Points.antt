@@ -7,11 +7,11 @@ use native.Mathlib.Omega.{arith}
 use lib.IntN.{ℤ, pos, natAbs, _-ℤ_, _*ℤ_}
 use lib.Signed.{_≤ℤ_}
 use Rattle.grid.specs.declared.edge.Edge.{Edge}
+use Rattle.chord.specs.declared.position.Position as declared
 
--- where a sample or a vertex is, in 1/256 of the pitch from sample (0,0)
-pub record Position : Type 0 where
-  pub x : ℕ
-  pub y : ℕ
+-- where a sample or a vertex is, x and y in 1/256 of the pitch from sample (0,0): the struct of src/position.rt
+abbrev pub Position : Type 0
+Position = declared.Position
 
 -- "A horizontal grid edge (kind 0) at (c,r) runs from (c,r) to (c+1,r) .. A vertical one (kind 1) at (c,r) runs to (c,r+1) .. A vertex
 -- lies at offset 1 to 255, in 1/256 of the pitch from (c,r)."

@@ -1,1 +1,11 @@
-// Points, segments, crossing and sliding. There is no code here yet: see specs/ and proofs/.
+// Chords: where a vertex is, whether a chord crosses a stick, or a number of sticks that follow one another on a contour, and whether a
+// vertex slides to it within a tolerance.
+mod cross;
+mod position;
+mod run;
+
+pub use cross::crosses_stick;
+pub use cross::slides_within;
+pub use position::Position;
+pub use position::position_of;
+pub use run::crosses_run;

@@ -3,7 +3,7 @@
 -- Its invariant: `Stop L n`, and that folding over the contours that begin at n or after gives the whole fold.
 use mathlib.Core.Path.{_≡_, ap, sym, _∙_}
 use mathlib.Core.Bool.{Bool, true, false}
-use mathlib.Core.List.{List, foldl}
+use mathlib.Core.List.{List, [], _∷_, foldl}
 use Prim.Native.Nat.{ℕ, _+_, _-_, _≤_, _<_}
 use native.Mathlib.Decide.{decLt}
 use native.Mathlib.Omega.{arith}
@@ -14,13 +14,13 @@ use Rattle.grid.specs.Layer.{Layer}
 use Rattle.grid.specs.Edges.{edgeAt, edgeCount, kindStart, isStick}
 use Rattle.grid.specs.Questions.{Sound}
 use Rattle.grid.specs.declared.edge.Edge.{Edge}
-use Rattle.contour.specs.Walk.{first, contoursFrom, nextFirst}
-use Rattle.contour.specs.Contours.{walkOf, contourOf, contoursOf, contourCount}
+use Rattle.contour.specs.Walk.{first, firstsAmong, firstsFrom, contoursFrom, nextFirst}
+use Rattle.contour.specs.Contours.{walkOf, contourOf, firstSticks, contoursOf, contourCount}
 use Rattle.contour.specs.Sets.{places, has, FirstSet, nextIn, sizeOf}
 use Rattle.grid.proofs.Numbers.{kind-below}
 use Rattle.contour.proofs.First.{first-one}
 use Rattle.contour.proofs.Contours.{length-contours}
-use Rattle.contour.proofs.Outer.{next-first, next-unique, all-start, all-skip, all-turn, all-end}
+use Rattle.contour.proofs.Outer.{from-end, from-first, from-skip, next-first, next-unique, all-start, all-skip, all-turn, all-end}
 use Rattle.contour.proofs.Sticks.{laws}
 use Rattle.contour.proofs.Scans.{horizontal-fits, first-low-number}
 
@@ -99,6 +99,36 @@ module _ (L : Layer) (sound : Sound L) (s : List ℕ) (set : FirstSet L s) where
   -- the loop works on a stick
   pub stop-stick : (n : ℕ) → Stop L n → n < places → isStick L (edgeAt (L .size) n) ≡ true
   stop-stick n stop l = first-one (walkOf L) (laws L sound) (edgeAt (L .size) n) (stop .is-first l)
+
+  -- which is the edge of that number
+  pub stop-below : (n : ℕ) → Stop L n → n < places → n < edgeCount (L .size)
+  stop-below n stop l =
+      omega (arith, first-low-number L sound n (stop .is-first l), kind-below (L .size) (sound .whole .sized) false)
+
+  -- The first sticks from n on, for a loop that may stop before the last: all of them at the start; one, and those from the next on; none
+
+  skipped : (p n : ℕ) → p ≤ n → ((j : ℕ) → p ≤ j → j < n → first (walkOf L) (edgeAt (L .size) j) ≡ false)
+      → firstsFrom (walkOf L) p ≡ firstsFrom (walkOf L) n
+  skipped p n h none =
+      let e : p + (n - p) ≡ n = omega arith in
+      from-skip (walkOf L) (n - p) p (λ j a b. none j a (omega arith)) ∙ ap (firstsFrom (walkOf L)) e
+
+  pub firsts-start : (n : ℕ) → n ≡ nextIn s 0 → firstsFrom (walkOf L) n ≡ firstSticks L
+  firsts-start n e =
+      let all : edgeCount (L .size) - 0 ≡ edgeCount (L .size) = omega arith in
+      sym (skipped 0 n (omega arith) (next-none 0 n (omega arith) e)) ∙ ap (firstsAmong (walkOf L) 0) all
+
+  pub firsts-turn : (n n′ : ℕ) → Stop L n → n < places → n′ ≡ nextIn s (n + 1)
+      → firstsFrom (walkOf L) n ≡ edgeAt (L .size) n ∷ firstsFrom (walkOf L) n′
+  firsts-turn n n′ stop l e =
+      from-first (walkOf L) n (stop-below n stop l) (stop .is-first l)
+      ∙ ap (λ (t : List Edge). edgeAt (L .size) n ∷ t) (skipped (n + 1) n′ (next-from (n + 1) n′ (omega arith) e) (next-none (n + 1) n′ (omega arith) e))
+
+  pub firsts-end : (n : ℕ) → places ≤ n → firstsFrom (walkOf L) n ≡ []
+  firsts-end n l =
+      let end : ℕ = n + edgeCount (L .size) in
+      skipped n end (omega arith) (λ j a b. none-past j (omega (arith, horizontal-fits (L .size) (sound .whole .sized))))
+      ∙ from-end (walkOf L) end (omega arith)
 
   -- Folding over all contours: `pass` is what is done for one, `whole` what comes of all of them
 

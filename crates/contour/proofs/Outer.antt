@@ -22,10 +22,10 @@ module _ (w : Walk) where
 
   -- The first elements from p on
 
-  from-end : (p : ℕ) → many ≤ p → firstsFrom w p ≡ []
+  pub from-end : (p : ℕ) → many ≤ p → firstsFrom w p ≡ []
   from-end p l = let e : many - p ≡ 0 = omega arith in ap (firstsAmong w p) e ∙ among-none w p
 
-  from-first : (p : ℕ) → p < many → first w (at p) ≡ true → firstsFrom w p ≡ at p ∷ firstsFrom w (p + 1)
+  pub from-first : (p : ℕ) → p < many → first w (at p) ≡ true → firstsFrom w p ≡ at p ∷ firstsFrom w (p + 1)
   from-first p l f =
       let e : many - p ≡ suc (many - (p + 1)) = omega arith in
       ap (firstsAmong w p) e ∙ among-first w p (many - (p + 1)) f
@@ -39,7 +39,7 @@ module _ (w : Walk) where
           ap (firstsAmong w p) e ∙ among-other w p (many - (p + 1)) f
       go (no l) = from-end p (omega arith) ∙ sym (from-end (p + 1) (omega arith))
 
-  from-skip : (d p : ℕ) → ((j : ℕ) → p ≤ j → j < p + d → first w (at j) ≡ false) → firstsFrom w p ≡ firstsFrom w (p + d)
+  pub from-skip : (d p : ℕ) → ((j : ℕ) → p ≤ j → j < p + d → first w (at j) ≡ false) → firstsFrom w p ≡ firstsFrom w (p + d)
   from-skip zero p none = rw add-zero
   from-skip (suc d) p none =
       let e : p + 1 + d ≡ p + suc d = omega arith in

@@ -20,7 +20,7 @@ use Rattle.table.specs.Entries.{entryOf, entriesAnswer, tableLengthAnswer}
 use Rattle.table.specs.Vertices.{keptAt, removedAt, offsetAt, removedFrom, keptFrom, nextKept}
 use Rattle.held.specs.Held.{vertex, edgeCrosses, heldContour, heldAnswer}
 use Rattle.held.specs.Faithful.{Faithful, Drawn, Passes}
-use Rattle.held.proofs.Faithful.{passed-is-faithful}
+use Rattle.held.proofs.Faithful.{accepted-is-faithful}
 
 -- "W 3, H 3, inside (1,1)", with the four entries of its sticks, by number: 2, 3, 7 and 10
 abbrev pub single : Layer
@@ -35,7 +35,7 @@ edge v c r = record { vertical = v; column = c; row = r }
 pub traced-is-faithful : Faithful single (entries 128 128 128 128)
 unfolding sidesAnswer lengthAnswer spareAnswer borderAnswer tableLengthAnswer entriesAnswer heldAnswer heldContour edgeCrosses
     firstsAmong number edgeCount edgeAt isStick sample bit next prev xor leastFrom keptAt removedAt offsetAt removedFrom keptFrom entryOf
-traced-is-faithful = passed-is-faithful single (entries 128 128 128 128) refl
+traced-is-faithful = accepted-is-faithful single (entries 128 128 128 128) refl
 
 -- the points of the segment from p to q by their weights
 mean : (α β : ℕ) (p q : Position) (z : Point) → z .x ≡ pos (natAbs (z .x)) → z .y ≡ pos (natAbs (z .y)) → 0 < α + β

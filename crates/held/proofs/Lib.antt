@@ -15,3 +15,4 @@ pub mod Neighbours
 pub mod Holding
 pub mod Meaning
 pub mod Removal
+pub mod Asking

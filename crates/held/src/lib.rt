@@ -1,1 +1,9 @@
-// Question 7 and the theorem that a held layer is faithful. There is no code here yet: see specs/ and proofs/.
+// Question 7: is the layer held? Each kept vertex answers for the drawn edge that starts at it, so a gap is walked twice at most, and
+// nothing is remembered but the set of first sticks.
+mod edge;
+mod question;
+mod walk;
+
+pub use edge::vertex_at;
+pub use question::ask_held;
+pub use question::ask_layer_held;

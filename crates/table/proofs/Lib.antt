@@ -2,3 +2,5 @@
 pub mod Runs
 pub mod Lengths
 pub mod Gaps
+pub mod GapWalk
+pub mod Suits

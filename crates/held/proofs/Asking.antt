@@ -1,0 +1,178 @@
+-- What the code of question 7 rests on: a drawn edge against the sticks of its gap, one contour walked once, and all contours in order.
+use mathlib.Core.Path.{_≡_, refl, sym, _∙_, ap}
+use mathlib.Core.Bool.{Bool, true, false, not, _&&_, _||_}
+use mathlib.Core.List.{List, [], _∷_}
+use Prim.Native.Nat.{ℕ, zero, suc, _+_, _≤_, _<_}
+use native.Mathlib.Omega.{arith}
+use lib.Dec.{leb}
+use lib.ListN.{length}
+use Rattle.arith.specs.Booleans.{asNumber, one-le, both-sides}
+use Rattle.grid.specs.Layer.{Layer}
+use Rattle.grid.specs.Edges.{isStick, inGrid, edgeAt, edgeCount}
+use Rattle.grid.specs.Walk.{next}
+use Rattle.grid.specs.Questions.{firstNo, Sized, Sound}
+use Rattle.grid.specs.declared.layer.Size.{Size}
+use Rattle.grid.specs.declared.edge.Edge.{Edge}
+use Rattle.grid.specs.declared.question.Refusal.the-variants.{NotHeld}
+use Rattle.grid.specs.declared.question.Answer.the-variants.{Yes, No}
+use Rattle.grid.proofs.Numbers.{within, columns-narrow, rows-small, edges-small, edgeAt-within}
+use Rattle.grid.proofs.Answers.{append-all, firstNo-yes}
+use Rattle.contour.specs.Walk.{rest, firstsFrom}
+use Rattle.contour.specs.Contours.{walkOf, contourOf, sameEdge}
+use Rattle.contour.specs.Sets.{places, FirstSet, nextIn}
+use Rattle.contour.proofs.Orbit.{round}
+use Rattle.contour.proofs.Loop.{Due, start, due-one, due-next, rest-more, rest-last}
+use Rattle.contour.proofs.Sticks.{laws}
+use Rattle.contour.proofs.FirstSets.{Stop, stop-below, firsts-start, firsts-turn, firsts-end}
+use Rattle.chord.specs.Points.{Position}
+use Rattle.chord.specs.Crossing.{crosses}
+use Rattle.chord.specs.Runs.{crossesRun, NearEdge}
+use Rattle.table.specs.Entries.{lengthQuestions, entriesAnswer}
+use Rattle.table.specs.Vertices.{keptAt, removedAt, removedFrom, gapAfter}
+use Rattle.table.proofs.Gaps.{gap-over, gap-here}
+use Rattle.table.proofs.Lengths.{lengths-of}
+use Rattle.held.specs.Held.{each, among, edgeCrosses, heldContour, heldAnswer, firstUnheld}
+use Rattle.held.specs.Questions.{heldQuestions, Accepted}
+
+-- an edge of the grid is one of the largest layer
+pub in-grid-near : (size : Size) → Sized size → (e : Edge) → inGrid size e ≡ true → NearEdge e
+in-grid-near size sized e h =
+    let w = within size e h in
+    record {
+      column-below = omega (arith, w .column-below, columns-narrow size sized (e .vertical));
+      row-below = omega (arith, w .row-below, rows-small size sized (e .vertical) (e .row + 1) (omega (arith, w .row-below)) .0);
+    }
+
+-- The sticks of a gap are as many as follow e
+
+each-run : (L : Layer) (t : List ℕ) (p q : Position) (n : ℕ) (e : Edge)
+    → let gap = removedFrom (next L) L t n e in
+    each (crosses p q) gap ≡ crossesRun L p q e (length gap)
+unfolding removedFrom crossesRun
+each-run L t p q zero e = refl
+each-run L t p q (suc n) e =
+    both-sides (removedAt L t (next L e))
+    (λ r. rw (gap-over (next L) L t n e r) (ap (λ (b : Bool). crosses p q (next L e) && b) (each-run L t p q n (next L e))))
+    (λ r. rw (gap-here (next L) L t (suc n) e r))
+
+pub gap-run : (L : Layer) (t : List ℕ) (p q : Position) (e : Edge)
+    → each (crosses p q) (gapAfter L t e) ≡ crossesRun L p q e (length (gapAfter L t e))
+gap-run L t p q e = each-run L t p q (edgeCount (L .size)) e
+
+-- One contour
+
+among-most : {A : Type 0} (f : A → Bool) (l : List A) → among f l ≤ length l
+among-most f [] = omega arith
+among-most f (x ∷ l) = omega (arith, one-le (f x), among-most f l)
+
+-- the vertex of e is not kept, or the drawn edge that starts there crosses what it must
+abbrev pub draws : Layer → List ℕ → Edge → Bool
+draws L t e = not (keptAt L t e) || edgeCrosses L t e
+
+pub draws-kept : (L : Layer) (t : List ℕ) (e : Edge) {b : Bool} → keptAt L t e ≡ true → edgeCrosses L t e ≡ b → draws L t e ≡ b
+draws-kept L t e k x = rw k x
+
+pub draws-none : (L : Layer) (t : List ℕ) (e : Edge) → keptAt L t e ≡ false → draws L t e ≡ true
+draws-none L t e k = rw k
+
+-- a walk round the contour of f that stands at x: the kept vertices so far and those still to come are all of them, and what is still to be
+-- asked decides whether all edges cross
+pub record Counted (L : Layer) (t : List ℕ) (f x : Edge) (kept : ℕ) : Type 0 where
+  pub due : Due (walkOf L) f x
+  pub in-all : kept + among (keptAt L t) (rest (walkOf L) x f) ≡ among (keptAt L t) (contourOf L f)
+  pub still : each (draws L t) (rest (walkOf L) x f) ≡ each (draws L t) (contourOf L f)
+
+and-false : (a : Bool) → false ≡ (a && false)
+and-false true = refl
+and-false false = refl
+
+and-true : (a : Bool) → a ≡ (a && true)
+and-true true = refl
+and-true false = refl
+
+module _ (L : Layer) (sound : Sound L) (t : List ℕ) (f : Edge) where
+  pub counted-start : isStick L f ≡ true → Counted L t f f 0
+  counted-start stick = record { due = start (walkOf L) (laws L sound) f stick; in-all = omega arith; still = refl }
+
+  module _ (x : Edge) (kept : ℕ) (c : Counted L t f x kept) where
+    pub counted-stick : isStick L x ≡ true
+    counted-stick = due-one (walkOf L) (laws L sound) f x (c .due)
+
+    pub counted-most : kept ≤ 2095104
+    counted-most =
+        omega (
+          arith,
+          c .in-all,
+          among-most (keptAt L t) (contourOf L f),
+          round (walkOf L) (laws L sound) f (c .due .start-one) .within,
+          edges-small (L .size) (sound .whole .sized),
+        )
+
+    -- an edge that does not cross
+    pub counted-no : draws L t x ≡ false → false ≡ heldContour L t f
+    unfolding heldContour rest
+    counted-no bad =
+        let none : each (draws L t) (rest (walkOf L) x f) ≡ false = rw bad in
+        let all : each (draws L t) (contourOf L f) ≡ false = sym (c .still) ∙ none in
+        and-false (leb 3 (among (keptAt L t) (contourOf L f)))
+        ∙ ap (λ (b : Bool). leb 3 (among (keptAt L t) (contourOf L f)) && b) (sym all)
+
+    module _ (x′ : Edge) (kept′ : ℕ) (step : x′ ≡ next L x) (yes : draws L t x ≡ true) (more : kept′ ≡ kept + asNumber (keptAt L t x)) where
+      -- the walk goes on
+      pub counted-turn : sameEdge x′ f ≡ false → Counted L t f x′ kept′
+      counted-turn s =
+          let left = rest-more (walkOf L) (laws L sound) f x x′ (c .due) step s in
+          record {
+            due = due-next (walkOf L) (laws L sound) f x x′ (c .due) step;
+            in-all = omega (arith, more, c .in-all, ap (among (keptAt L t)) left);
+            still = ap (λ (b : Bool). b && each (draws L t) (rest (walkOf L) x′ f)) (sym yes) ∙ sym (ap (each (draws L t)) left) ∙ c .still;
+          }
+
+      -- it is back
+      pub counted-last : sameEdge x′ f ≡ true → leb 3 kept′ ≡ heldContour L t f
+      unfolding heldContour
+      counted-last s =
+          let left = rest-last (walkOf L) (laws L sound) f x x′ (c .due) step s in
+          let all : kept′ ≡ among (keptAt L t) (contourOf L f) = omega (arith, more, c .in-all, ap (among (keptAt L t)) left) in
+          let held : each (draws L t) (contourOf L f) ≡ true =
+          sym (c .still) ∙ ap (each (draws L t)) left ∙ ap (λ (b : Bool). b && true) yes in
+          ap (leb 3) all ∙ and-true (leb 3 (among (keptAt L t) (contourOf L f)))
+          ∙ ap (λ (b : Bool). leb 3 (among (keptAt L t) (contourOf L f)) && b) (sym held)
+
+-- All contours, from the first stick with number n on
+
+module _ (L : Layer) (sound : Sound L) (t s : List ℕ) (set : FirstSet L s) (n : ℕ) where
+  module _ (stop : Stop L n) (below : n < places) where
+    here-first : (n′ : ℕ) → n′ ≡ nextIn s (n + 1)
+        → firstUnheld L t (firstsFrom (walkOf L) n) ≡ firstUnheld L t (edgeAt (L .size) n ∷ firstsFrom (walkOf L) n′)
+    here-first n′ e = ap (firstUnheld L t) (firsts-turn L sound s set n n′ stop below e)
+
+    pub ask-no : heldContour L t (edgeAt (L .size) n) ≡ false → No NotHeld n ≡ firstUnheld L t (firstsFrom (walkOf L) n)
+    ask-no h =
+        let num = edgeAt-within (L .size) (sound .whole .sized) n (stop-below L sound s set n stop below) .1 in
+        let first : No NotHeld n ≡ firstUnheld L t (edgeAt (L .size) n ∷ firstsFrom (walkOf L) (nextIn s (n + 1))) =
+        rw h (ap (No NotHeld) (sym num)) in
+        first ∙ sym (here-first (nextIn s (n + 1)) refl)
+
+    pub ask-next : (n′ : ℕ) → n′ ≡ nextIn s (n + 1) → heldContour L t (edgeAt (L .size) n) ≡ true
+        → firstUnheld L t (firstsFrom (walkOf L) n′) ≡ firstUnheld L t (firstsFrom (walkOf L) n)
+    ask-next n′ e h =
+        let later : firstUnheld L t (firstsFrom (walkOf L) n′) ≡ firstUnheld L t (edgeAt (L .size) n ∷ firstsFrom (walkOf L) n′) = rw h in
+        later ∙ sym (here-first n′ e)
+
+  pub ask-start : n ≡ nextIn s 0 → firstUnheld L t (firstsFrom (walkOf L) n) ≡ heldAnswer L t
+  unfolding heldAnswer
+  ask-start e = ap (firstUnheld L t) (firsts-start L sound s set n e)
+
+  pub ask-end : places ≤ n → Yes ≡ firstUnheld L t (firstsFrom (walkOf L) n)
+  ask-end l = sym (ap (firstUnheld L t) (firsts-end L sound s set n l))
+
+-- What a yes to questions 1 to 7 says
+
+pub accepted-of : (L : Layer) (t : List ℕ) → firstNo (heldQuestions L t) ≡ Yes → Accepted L t
+accepted-of L t e =
+    let both = append-all (lengthQuestions L (length t)) (entriesAnswer L t ∷ heldAnswer L t ∷ []) e in
+    let lengths = lengths-of L (length t) (both .0) in
+    let six = firstNo-yes (entriesAnswer L t) (heldAnswer L t ∷ []) (both .1) in
+    let seven = firstNo-yes (heldAnswer L t) [] (six .1) in
+    record { sound = lengths .0; exact = lengths .1; entries = six .0; held = seven .0 }

@@ -1,0 +1,64 @@
+-- `held_at` meets its contract.
+use mathlib.Core.Path.{_≡_, sym, ap, _∙_}
+use borrow.Author.Needs.{needs}
+use Rattle.grid.specs.Layer.{layerOf}
+use Rattle.chord.specs.Runs.{crossesRun}
+use Rattle.table.specs.Vertices.{offsetAt, nextKept}
+use Rattle.held.specs.Held.{vertex, edgeCrosses}
+use Rattle.contour.proofs.Sticks.{stick-in}
+use Rattle.table.proofs.Gaps.{kept-not-removed}
+use Rattle.held.proofs.Asking.{gap-run}
+use Rattle.held.proofs.edge.held_at.Statement.{statement}
+use Rattle.held.proofs.edge.held_at.Tie as tie
+
+kept-after-requires : tie.Need-kept-after-requires
+kept-after-requires c κs =
+    let a = c .before .before .args in
+    let given = c .before .before .pre in
+    let L = layerOf (a .size) (a .bitmap .now) in
+    let t = a .table .now in
+    (given .0, (given .1 .0, (given .1 .1 .0, kept-not-removed L t (a .e) (given .1 .1 .1))))
+
+vertex-at-requires : tie.Need-vertex-at-requires
+vertex-at-requires c κs =
+    let a = c .before .before .before .args in
+    let given = c .before .before .before .pre in
+    let L = layerOf (a .size) (a .bitmap .now) in
+    let t = a .table .now in
+    (given .0 .whole .sized, (given .1 .0, stick-in L (a .e) (given .1 .1 .0)))
+
+vertex-at-requires-2 : tie.Need-vertex-at-requires-2
+vertex-at-requires-2 c κs =
+    let a = c .before .before .before .before .args in
+    let given = c .before .before .before .before .pre in
+    let L = layerOf (a .size) (a .bitmap .now) in
+    let t = a .table .now in
+    let end = c .before .kept-after in
+    (given .0 .whole .sized, (given .1 .0, stick-in L (end .result .stick) (end .ensures .1 .1)))
+
+crosses-run-requires : tie.Need-crosses-run-requires
+crosses-run-requires c κs = search needs
+
+returns : tie.Need-returns
+unfolding edgeCrosses offsetAt
+returns c =
+    let a = c .before .before .before .before .before .before .args in
+    let given = c .before .before .before .before .before .before .pre in
+    let L = layerOf (a .size) (a .bitmap .now) in
+    let t = a .table .now in
+    let last = nextKept L t (a .e) in
+    let end = c .before .before .before .kept-after .ensures in
+    let p : c .before .before .vertex-at .result ≡ vertex L t (a .e) = c .before .before .vertex-at .ensures .0 in
+    let q : c .before .vertex-at2 .result ≡ vertex L t last = c .before .vertex-at2 .ensures .0 ∙ ap (vertex L t) (end .0) in
+    c .crosses-run .ensures ∙ (λ i. crossesRun L (p i) (q i) (a .e) (end .1 .0 i))
+    ∙ sym (gap-run L t (vertex L t (a .e)) (vertex L t last) (a .e))
+
+pub held-at-spec : {M : Type 1} → statement M
+held-at-spec =
+    tie.close
+    (tie.spec
+    kept-after-requires
+    vertex-at-requires
+    vertex-at-requires-2
+    crosses-run-requires
+    returns)

@@ -1,0 +1,21 @@
+-- Questions 1 to 7, which every call on a held layer is asked first, and what a yes to all of them says.
+use mathlib.Core.Path.{_≡_}
+use mathlib.Core.List.{List, [], _∷_, _++_}
+use Prim.Native.Nat.{ℕ}
+use lib.ListN.{length}
+use Rattle.grid.specs.Layer.{Layer}
+use Rattle.grid.specs.Edges.{edgeCount}
+use Rattle.grid.specs.Questions.{Sound}
+use Rattle.grid.specs.declared.question.Answer.{Answer}
+use Rattle.grid.specs.declared.question.Answer.the-variants.{Yes}
+use Rattle.table.specs.Entries.{lengthQuestions, entriesAnswer}
+use Rattle.held.specs.Held.{heldAnswer}
+
+abbrev pub heldQuestions : Layer → List ℕ → List Answer
+heldQuestions L t = lengthQuestions L (length t) ++ (entriesAnswer L t ∷ heldAnswer L t ∷ [])
+
+pub record Accepted (L : Layer) (t : List ℕ) : Type 0 where
+  pub sound : Sound L
+  pub exact : length t ≡ edgeCount (L .size)
+  pub entries : entriesAnswer L t ≡ Yes
+  pub held : heldAnswer L t ≡ Yes

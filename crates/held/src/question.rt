@@ -1,0 +1,59 @@
+// Question 7, and questions 1 to 7 in order.
+use super::walk::held_contour;
+use contour::first_sticks;
+use contour::next_first;
+use grid::Answer;
+use grid::Refusal;
+use grid::Size;
+use grid::edge_at;
+ghost use mathlib.Core.Path.{_≡_};
+ghost use lib.ListN.{length};
+ghost use Rattle.grid.specs.Layer.{layerOf};
+ghost use Rattle.grid.specs.Edges.{edgeCount};
+ghost use Rattle.grid.specs.Questions.{firstNo, Sound};
+ghost use Rattle.contour.specs.Sets.{FirstSet};
+ghost use Rattle.held.specs.Held.{heldAnswer};
+ghost use Rattle.held.specs.Questions.{heldQuestions};
+
+// Question 7, from the set of first sticks.
+fn ask_contours(size: Size, bitmap: &[u8], table: &[u16], set: &[u64; 16368]) -> Answer
+    requires { ⌜ Sound (layerOf size (now bitmap)) ⌝ }
+    requires { ⌜ length (now table) ≡ edgeCount size ⌝ }
+    requires { ⌜ FirstSet (layerOf size (now bitmap)) (now set) ⌝ }
+    ensures { λ r. ⌜ r ≡ heldAnswer (layerOf size (now (bitmap .entry))) (now (table .entry)) ⌝ }
+{
+    let mut n = next_first(set, 0);
+    while n < 1047552 {
+        if !held_contour(size, bitmap, table, edge_at(size, n)) {
+            return Answer::No(Refusal::NotHeld, n);
+        }
+        n = next_first(set, n + 1);
+    }
+    Answer::Yes
+}
+
+// Question 7, of a layer that passed 1 to 5.
+pub fn ask_held(size: Size, bitmap: &[u8], table: &[u16]) -> Answer
+    requires { ⌜ Sound (layerOf size (now bitmap)) ⌝ }
+    requires { ⌜ length (now table) ≡ edgeCount size ⌝ }
+    ensures { λ r. ⌜ r ≡ heldAnswer (layerOf size (now (bitmap .entry))) (now (table .entry)) ⌝ }
+{
+    let mut set: [u64; 16368] = [0; 16368];
+    first_sticks(size, bitmap, &mut set);
+    ask_contours(size, bitmap, table, &set)
+}
+
+// Questions 1 to 7.
+pub fn ask_layer_held(size: Size, bitmap: &[u8], table: &[u16]) -> Answer
+    ensures { λ r. ⌜ r ≡ firstNo (heldQuestions (layerOf size (now (bitmap .entry))) (now (table .entry))) ⌝ }
+{
+    let lengths = table::ask_lengths(size, bitmap, table.len());
+    let Answer::Yes = lengths else {
+        return lengths;
+    };
+    let entries = table::ask_entries(size, bitmap, table);
+    let Answer::Yes = entries else {
+        return entries;
+    };
+    ask_held(size, bitmap, table)
+}

@@ -1,0 +1,56 @@
+// What the table says of an edge: its entry, whether that is a kept or a removed vertex, and the vertex's offset.
+use super::entry::Entry;
+use super::entry::entry_of;
+use grid::Edge;
+use grid::Size;
+use grid::number_of;
+ghost use mathlib.Core.Path.{_≡_};
+ghost use mathlib.Core.Bool.{true};
+ghost use lib.ListN.{length, getD};
+ghost use Rattle.grid.specs.Edges.{inGrid, number, edgeCount};
+ghost use Rattle.grid.specs.Questions.{Sized};
+ghost use Rattle.table.specs.Entries.{entryOf};
+ghost use Rattle.table.specs.Vertices.{isKept, isRemoved, offsetIn};
+
+pub fn entry_at(size: Size, table: &[u16], e: Edge) -> Entry
+    requires { ⌜ Sized size ⌝ }
+    requires { ⌜ length (now table) ≡ edgeCount size ⌝ }
+    requires { ⌜ inGrid size e ≡ true ⌝ }
+    ensures { λ r. ⌜ r ≡ entryOf (getD (now (table .entry)) (number size e) 0) ⌝ }
+{
+    let n = number_of(size, e);
+    entry_of(table[n])
+}
+
+pub fn is_kept(entry: Entry) -> bool
+    ensures { λ r. ⌜ r ≡ isKept entry ⌝ }
+{
+    match entry {
+        Entry::Nothing => false,
+        Entry::Kept(_) => true,
+        Entry::Removed(_) => false,
+        Entry::Wrong => false,
+    }
+}
+
+pub fn is_removed(entry: Entry) -> bool
+    ensures { λ r. ⌜ r ≡ isRemoved entry ⌝ }
+{
+    match entry {
+        Entry::Nothing => false,
+        Entry::Kept(_) => false,
+        Entry::Removed(_) => true,
+        Entry::Wrong => false,
+    }
+}
+
+pub fn offset_in(entry: Entry) -> u8
+    ensures { λ r. ⌜ r ≡ offsetIn entry ⌝ }
+{
+    match entry {
+        Entry::Nothing => 0,
+        Entry::Kept(offset) => offset,
+        Entry::Removed(offset) => offset,
+        Entry::Wrong => 0,
+    }
+}
