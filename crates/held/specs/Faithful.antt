@@ -1,4 +1,5 @@
--- What a held layer is shown to be: the end of demand 3, sentence by sentence, over all points X, Y, D ('Samples and sticks').
+-- What a held layer is shown to be, said of all points X, Y, D: contours closed, vertices inside their sticks, drawn edges apart, and
+-- contours passing between adjacent samples once where they differ and never where they agree.
 -- proofs/Faithful.antt has the theorem that a layer that passes questions 1 to 7 is faithful.
 use mathlib.Core.Path.{_≡_}
 use mathlib.Core.Logic.{_⊎_, _≢_}
@@ -77,7 +78,7 @@ pub record Passes (L : Layer) (t : List ℕ) (e : Edge) (z : Point) : Type 0 whe
   pub on-segment : On z (start e) (end e)
 
 pub record Faithful (L : Layer) (t : List ℕ) : Type 0 where
-  -- every contour is closed
+  -- every contour is closed; every stick, and so every drawn edge, lies on the contour of one first stick (contour, `on-one-contour`)
   pub closed : (f : Edge) → first (walkOf L) f ≡ true → ContourClosed L t f
   -- each vertex, kept or removed, lies strictly inside its stick
   pub vertices : (e : Edge) → isStick L e ≡ true → VertexInside L t e

@@ -14,7 +14,7 @@ use Rattle.trace.specs.Counts.{Figures, countsOf}
 abbrev pub fourFigures : ℕ → ℕ → ℕ → ℕ → List ℕ → List ℕ
 fourFigures place one two three figures = set (set (set (set figures 0 place) 1 one) 2 two) 3 three
 
--- Trace. A slice of figures shorter than four gives 14 before any question, and nothing is touched.
+-- Trace. A slice of figures shorter than four gives 14 before any question, and nothing is touched: a rule of this face alone.
 pub record TraceFace : Type 0 where
   pub number : ℕ
   pub table : List ℕ

@@ -1,4 +1,4 @@
--- The call Smooth: the step at one vertex, a pass over one contour and over the layer, and passes until smoothing is settled or the limit
+-- The rule of Smooth: the step at one vertex, a pass over one contour and over the layer, and passes until smoothing is settled or the limit
 -- is reached. Every definition computes: a test that runs `smooth` says `unfolding smooth`, which opens all of this crate's that it is made of.
 use mathlib.Core.Bool.{Bool, true, false}
 use mathlib.Core.List.{List, foldl}

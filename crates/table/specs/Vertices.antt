@@ -44,7 +44,7 @@ unfoldable pub offsetAt : Layer → List ℕ → Edge → ℕ
 offsetAt L t e = offsetIn (entryAt L t e)
 
 -- "A drawn edge joins two kept vertices with only removed ones between." Going on by `step` from e, at most n times: the removed sticks
--- that come first, and the stick after them.
+-- that come first, and the stick after them, which is kept where the table passes question 6 and the contour has a kept vertex.
 unfoldable pub removedFrom : (Edge → Edge) → Layer → List ℕ → ℕ → Edge → List Edge
 removedFrom step L t zero e = []
 removedFrom step L t (suc n) e =
