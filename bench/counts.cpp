@@ -12,46 +12,41 @@ struct Layer {
     void set(size_t c, size_t r) { bytes[r * stride + c / 8] |= 1 << (c % 8); }
 };
 
-// One step of a walk: the edge's kind, its place, and the direction in which it is crossed (0 north, 1 east, 2 south, 3 west).
-struct Walker {
-    bool vertical;
-    size_t c, r;
-    int direction;
-};
-
-static void step(const Layer &layer, Walker &at) {
-    size_t c = at.c - (at.direction == 3), r = at.r - (at.direction == 2);
-    bool sw = layer.inside(c, r), se = layer.inside(c + 1, r);
-    bool nw = layer.inside(c, r + 1), ne = layer.inside(c + 1, r + 1);
-    bool left, right;
-    switch (at.direction) {
-    case 0: left = nw, right = ne; break;
-    case 1: left = ne, right = se; break;
-    case 2: left = se, right = sw; break;
-    default: left = sw, right = nw;
-    }
-    at.direction = !left ? (at.direction + 3) % 4 : !right ? at.direction : (at.direction + 1) % 4;
-    switch (at.direction) {
-    case 0: at = {false, c, r + 1, 0}; break;
-    case 1: at = {true, c + 1, r, 1}; break;
-    case 2: at = {false, c, r, 2}; break;
-    default: at = {true, c, r, 3};
-    }
-}
-
+// Walks with inside on the left, in directions 0 north, 1 east, 2 south, 3 west, all state in local variables.
 static size_t contours(const Layer &layer) {
     std::vector<uint8_t> passed((layer.w - 1) * layer.h, 0);
     size_t found = 0;
-    for (size_t r = 0; r < layer.h; r++)
-        for (size_t c = 0; c + 1 < layer.w; c++) {
-            bool first = layer.inside(c, r);
-            if (first == layer.inside(c + 1, r) || passed[r * (layer.w - 1) + c]) continue;
+    for (size_t row = 0; row < layer.h; row++)
+        for (size_t column = 0; column + 1 < layer.w; column++) {
+            bool first = layer.inside(column, row);
+            if (first == layer.inside(column + 1, row) || passed[row * (layer.w - 1) + column]) continue;
             found++;
-            Walker at = {false, c, r, first ? 0 : 2};
+            bool vertical = false;
+            size_t x = column, y = row;
+            int direction = first ? 0 : 2;
             do {
-                if (!at.vertical) passed[at.r * (layer.w - 1) + at.c] = 1;
-                step(layer, at);
-            } while (at.vertical || at.c != c || at.r != r);
+                if (!vertical) passed[y * (layer.w - 1) + x] = 1;
+                size_t c = x, r = y;
+                if (direction == 2) r--;
+                if (direction == 3) c--;
+                bool sw = layer.inside(c, r), se = layer.inside(c + 1, r);
+                bool nw = layer.inside(c, r + 1), ne = layer.inside(c + 1, r + 1);
+                bool left, right;
+                switch (direction) {
+                case 0: left = nw, right = ne; break;
+                case 1: left = ne, right = se; break;
+                case 2: left = se, right = sw; break;
+                default: left = sw, right = nw;
+                }
+                if (!left) direction = (direction + 3) % 4;
+                else if (right) direction = (direction + 1) % 4;
+                switch (direction) {
+                case 0: vertical = false, x = c, y = r + 1; break;
+                case 1: vertical = true, x = c + 1, y = r; break;
+                case 2: vertical = false, x = c, y = r; break;
+                default: vertical = true, x = c, y = r;
+                }
+            } while (vertical || x != column || y != row);
         }
     return found;
 }
