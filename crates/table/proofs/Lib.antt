@@ -4,3 +4,4 @@ pub mod Lengths
 pub mod Gaps
 pub mod GapWalk
 pub mod Suits
+pub mod AllKept

@@ -1,3 +1,4 @@
--- What the crate's contracts cite: the entries of the hold table, and questions 5 and 6.
+-- What the crate's contracts cite: the entries of the hold table, questions 5 and 6, what the table says of a stick, and question 15.
 pub mod Entries
 pub mod Vertices
+pub mod Kept

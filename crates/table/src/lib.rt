@@ -1,4 +1,4 @@
-// The hold table: an entry taken apart, questions 5 and 6, and the next kept vertex of a contour.
+// The hold table: an entry taken apart, questions 5, 6 and 15, and the next kept vertex of a contour.
 mod entry;
 mod question;
 mod vertex;
@@ -6,6 +6,7 @@ mod walk;
 
 pub use entry::Entry;
 pub use entry::entry_of;
+pub use question::ask_all_kept;
 pub use question::ask_entries;
 pub use question::ask_lengths;
 pub use vertex::entry_at;

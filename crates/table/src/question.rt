@@ -1,5 +1,7 @@
-// Questions 5 and 6. The entries are gone through eight at a time, with the byte that marks the sticks among them.
+// Questions 5, 6 and 15. For question 6 the entries are gone through eight at a time, with the byte that marks the sticks among them.
+use super::entry::entry_of;
 use super::entry::is_wrong;
+use super::vertex::is_removed;
 use grid::Answer;
 use grid::Refusal;
 use grid::Size;
@@ -12,6 +14,7 @@ ghost use Rattle.grid.specs.Layer.{layerOf};
 ghost use Rattle.grid.specs.Edges.{edgeColumns, edgeRows, edgeCount};
 ghost use Rattle.grid.specs.Questions.{firstNo, Sized, Sound};
 ghost use Rattle.table.specs.Entries.{tableLengthAnswer, lengthQuestions, entriesAnswer, wrongOf, wrongIn, wrongFrom};
+ghost use Rattle.table.specs.Kept.{allKeptAnswer};
 
 fn ask_table_length(size: Size, entries: usize) -> Answer
     requires { ⌜ Sized size ⌝ }
@@ -136,6 +139,23 @@ pub fn ask_entries(size: Size, bitmap: &[u8], table: &[u16]) -> Answer
     let n = horizontal + wrong_of_kind(size, bitmap, table, true);
     if n < grid::edge_count(size) {
         return Answer::No(Refusal::WrongEntry, n);
+    }
+    Answer::Yes
+}
+
+// Question 15.
+pub fn ask_all_kept(size: Size, table: &[u16]) -> Answer
+    requires { ⌜ Sized size ⌝ }
+    requires { ⌜ length (now table) ≡ edgeCount size ⌝ }
+    ensures { λ r. ⌜ r ≡ allKeptAnswer size (now (table .entry)) ⌝ }
+{
+    let count = grid::edge_count(size);
+    let mut k = 0;
+    while k < count {
+        if is_removed(entry_of(table[k])) {
+            return Answer::No(Refusal::SomeRemoved, k);
+        }
+        k += 1;
     }
     Answer::Yes
 }

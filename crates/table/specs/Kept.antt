@@ -1,0 +1,19 @@
+-- Question 15, by the entries alone: it is asked where question 6 was answered yes, so that each stick's entry is kept or removed.
+use mathlib.Core.Bool.{Bool}
+use mathlib.Core.List.{List}
+use Prim.Native.Nat.{ℕ}
+use lib.ListN.{getD}
+use Rattle.grid.specs.Edges.{edgeCount}
+use Rattle.grid.specs.Questions.{askEach}
+use Rattle.grid.specs.declared.layer.Size.{Size}
+use Rattle.grid.specs.declared.question.Refusal.the-variants as Refusal
+use Rattle.grid.specs.declared.question.Answer.{Answer}
+use Rattle.table.specs.Entries.{entryOf}
+use Rattle.table.specs.Vertices.{isRemoved}
+
+-- "15. For Smooth and Simplify: is every vertex kept? (lowest removed entry)"
+abbrev pub isRemovedAt : List ℕ → ℕ → Bool
+isRemovedAt t k = isRemoved (entryOf (getD t k 0))
+
+unfoldable pub allKeptAnswer : Size → List ℕ → Answer
+allKeptAnswer size t = askEach Refusal.SomeRemoved (isRemovedAt t) (edgeCount size)
