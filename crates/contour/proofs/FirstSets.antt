@@ -1,5 +1,6 @@
 -- What the set of first sticks tells: how many contours there are, which is next, and the laws of a loop over all contours that goes
--- from set bit to set bit, `n = next_first(set, 0); while n < 1047552 { work on the contour of edge n; n = next_first(set, n + 1); }`.
+-- from set bit to set bit. First sticks are horizontal, so that it ends where the vertical edges' numbers start:
+-- `end = kind_start(size, true); n = next_first(set, 0, end); while n < end { work on the contour of edge n; n = next_first(set, n + 1, end); }`.
 -- Its invariant: `Stop L n`, and that folding over the contours that begin at n or after gives the whole fold.
 use mathlib.Core.Path.{_≡_, ap, sym, _∙_}
 use mathlib.Core.Bool.{Bool, true, false}
@@ -24,10 +25,10 @@ use Rattle.contour.proofs.Outer.{from-end, from-first, from-skip, next-
 use Rattle.contour.proofs.Sticks.{laws}
 use Rattle.contour.proofs.Scans.{horizontal-fits, first-low-number}
 
--- n is the number of a first stick, or `places`
+-- n is the number of a first stick, or that of the first vertical edge
 pub record Stop (L : Layer) (n : ℕ) : Type 0 where
-  pub within : n ≤ places
-  pub is-first : n < places → first (walkOf L) (edgeAt (L .size) n) ≡ true
+  pub within : n ≤ kindStart (L .size) true
+  pub is-first : n < kindStart (L .size) true → first (walkOf L) (edgeAt (L .size) n) ≡ true
 
 module _ (L : Layer) (sound : Sound L) (s : List ℕ) (set : FirstSet L s) where
   abbrev isFirst : ℕ → Bool
@@ -59,9 +60,9 @@ module _ (L : Layer) (sound : Sound L) (s : List ℕ) (set : FirstSet L s) where
 
   -- The next first stick from p on
 
-  module _ (p n : ℕ) (h : p ≤ places) (e : n ≡ nextIn s p) where
-    least-of : Least (has s) p (places - p) n
-    least-of = rw e (least-from (has s) p (places - p))
+  module _ (p n : ℕ) (h : p ≤ kindStart (L .size) true) (e : n ≡ nextIn s p (kindStart (L .size) true)) where
+    least-of : Least (has s) p (kindStart (L .size) true - p) n
+    least-of = rw e (least-from (has s) p (kindStart (L .size) true - p))
 
     pub next-from : p ≤ n
     next-from = least-of .from
@@ -77,7 +78,7 @@ module _ (L : Layer) (sound : Sound L) (s : List ℕ) (set : FirstSet L s) where
     next-none j a b = sym (set .says j) ∙ least-of .before j a b
 
     -- it is `nextFirst`, which says the number of edges where there is none
-    pub next-some : n < places → n ≡ nextFirst (walkOf L) p
+    pub next-some : n < kindStart (L .size) true → n ≡ nextFirst (walkOf L) p
     next-some l =
         let f = next-stop .is-first l in
         let below : n < edgeCount (L .size) =
@@ -86,22 +87,22 @@ module _ (L : Layer) (sound : Sound L) (s : List ℕ) (set : FirstSet L s) where
         (record { from = next-from; to = omega arith; before = next-none; here = λ b. f })
         (next-first (walkOf L) p (omega (arith, next-from)))
 
-    pub next-last : places ≤ n → p ≤ edgeCount (L .size) → nextFirst (walkOf L) p ≡ edgeCount (L .size)
+    pub next-last : kindStart (L .size) true ≤ n → p ≤ edgeCount (L .size) → nextFirst (walkOf L) p ≡ edgeCount (L .size)
     next-last l b =
         next-unique (walkOf L) p (nextFirst (walkOf L) p) (edgeCount (L .size)) (next-first (walkOf L) p b)
         (record {
           from = b;
           to = omega arith;
-          before = λ j a c. elim (decLt j n) [ yes y ↦ next-none j a y | no g ↦ none-past j (omega (arith, horizontal-fits (L .size) (sound .whole .sized))) ];
+          before = λ j a c. elim (decLt j n) [ yes y ↦ next-none j a y | no g ↦ none-past j (omega arith) ];
           here = λ c. absurd (omega arith);
         })
 
   -- the loop works on a stick
-  pub stop-stick : (n : ℕ) → Stop L n → n < places → isStick L (edgeAt (L .size) n) ≡ true
+  pub stop-stick : (n : ℕ) → Stop L n → n < kindStart (L .size) true → isStick L (edgeAt (L .size) n) ≡ true
   stop-stick n stop l = first-one (walkOf L) (laws L sound) (edgeAt (L .size) n) (stop .is-first l)
 
   -- which is the edge of that number
-  pub stop-below : (n : ℕ) → Stop L n → n < places → n < edgeCount (L .size)
+  pub stop-below : (n : ℕ) → Stop L n → n < kindStart (L .size) true → n < edgeCount (L .size)
   stop-below n stop l =
       omega (arith, first-low-number L sound n (stop .is-first l), kind-below (L .size) (sound .whole .sized) false)
 
@@ -113,32 +114,33 @@ module _ (L : Layer) (sound : Sound L) (s : List ℕ) (set : FirstSet L s) where
       let e : p + (n - p) ≡ n = omega arith in
       from-skip (walkOf L) (n - p) p (λ j a b. none j a (omega arith)) ∙ ap (firstsFrom (walkOf L)) e
 
-  pub firsts-start : (n : ℕ) → n ≡ nextIn s 0 → firstsFrom (walkOf L) n ≡ firstSticks L
+  pub firsts-start : (n : ℕ) → n ≡ nextIn s 0 (kindStart (L .size) true) → firstsFrom (walkOf L) n ≡ firstSticks L
   firsts-start n e =
       let all : edgeCount (L .size) - 0 ≡ edgeCount (L .size) = omega arith in
       sym (skipped 0 n (omega arith) (next-none 0 n (omega arith) e)) ∙ ap (firstsAmong (walkOf L) 0) all
 
-  pub firsts-turn : (n n′ : ℕ) → Stop L n → n < places → n′ ≡ nextIn s (n + 1)
+  pub firsts-turn : (n n′ : ℕ) → Stop L n → n < kindStart (L .size) true → n′ ≡ nextIn s (n + 1) (kindStart (L .size) true)
       → firstsFrom (walkOf L) n ≡ edgeAt (L .size) n ∷ firstsFrom (walkOf L) n′
   firsts-turn n n′ stop l e =
       from-first (walkOf L) n (stop-below n stop l) (stop .is-first l)
       ∙ ap (λ (t : List Edge). edgeAt (L .size) n ∷ t) (skipped (n + 1) n′ (next-from (n + 1) n′ (omega arith) e) (next-none (n + 1) n′ (omega arith) e))
 
-  pub firsts-end : (n : ℕ) → places ≤ n → firstsFrom (walkOf L) n ≡ []
+  pub firsts-end : (n : ℕ) → kindStart (L .size) true ≤ n → firstsFrom (walkOf L) n ≡ []
   firsts-end n l =
       let end : ℕ = n + edgeCount (L .size) in
-      skipped n end (omega arith) (λ j a b. none-past j (omega (arith, horizontal-fits (L .size) (sound .whole .sized))))
+      skipped n end (omega arith) (λ j a b. none-past j (omega arith))
       ∙ from-end (walkOf L) end (omega arith)
 
   -- Folding over all contours: `pass` is what is done for one, `whole` what comes of all of them
 
   module _ {B : Type 0} (pass : B → List Edge → B) (t : B) where
-    pub set-start : (n : ℕ) → n ≡ nextIn s 0 → foldl pass t (contoursFrom (walkOf L) n) ≡ foldl pass t (contoursOf L)
+    pub set-start : (n : ℕ) → n ≡ nextIn s 0 (kindStart (L .size) true) → foldl pass t (contoursFrom (walkOf L) n) ≡ foldl pass t (contoursOf L)
     set-start n e =
         all-skip (walkOf L) pass t (foldl pass t (contoursOf L)) 0 n (omega arith) (next-none 0 n (omega arith) e) (all-start (walkOf L) pass t)
 
     module _ (whole : B) where
-      pub set-turn : (n n′ : ℕ) → Stop L n → n < places → n′ ≡ nextIn s (n + 1) → foldl pass t (contoursFrom (walkOf L) n) ≡ whole
+      pub set-turn : (n n′ : ℕ) → Stop L n → n < kindStart (L .size) true → n′ ≡ nextIn s (n + 1) (kindStart (L .size) true)
+          → foldl pass t (contoursFrom (walkOf L) n) ≡ whole
           → foldl pass (pass t (contourOf L (edgeAt (L .size) n))) (contoursFrom (walkOf L) n′) ≡ whole
       set-turn n n′ stop l e inv =
           let f = stop .is-first l in
@@ -148,8 +150,8 @@ module _ (L : Layer) (sound : Sound L) (s : List ℕ) (set : FirstSet L s) where
           (next-none (n + 1) n′ (omega arith) e)
           (all-turn (walkOf L) pass t whole n below f inv)
 
-      pub set-end : (n : ℕ) → places ≤ n → foldl pass t (contoursFrom (walkOf L) n) ≡ whole → t ≡ whole
+      pub set-end : (n : ℕ) → kindStart (L .size) true ≤ n → foldl pass t (contoursFrom (walkOf L) n) ≡ whole → t ≡ whole
       set-end n l inv =
           let end : ℕ = n + edgeCount (L .size) in
           all-end (walkOf L) pass t whole end (omega arith)
-          (all-skip (walkOf L) pass t whole n end (omega arith) (λ j a b. none-past j (omega (arith, horizontal-fits (L .size) (sound .whole .sized)))) inv)
+          (all-skip (walkOf L) pass t whole n end (omega arith) (λ j a b. none-past j (omega arith)) inv)

@@ -3,13 +3,13 @@ use mathlib.Core.Path.{_≡_, refl, ap, sym, _∙_}
 use mathlib.Core.Logic.{_≢_}
 use mathlib.Core.Bool.{Bool, true, false, xor, or-true, or-false}
 use mathlib.Core.List.{List}
-use Prim.Native.Nat.{ℕ, _+_, _-_, _*_, _/_, _%_, _^_, _≤_, _<_}
-use native.Mathlib.Decide.{ℕ-discrete}
+use Prim.Native.Nat.{ℕ, _+_, _-_, _*_, _/_, _%_, _^_, _≤_, _<_, min}
+use native.Mathlib.Decide.{ℕ-discrete, decLt}
 use native.Mathlib.Omega.{arith}
 use lib.Bits.{bitOr, bitXor}
 use lib.ListN.{length, getD, set, length-set, replicate, length-replicate, getD-replicate, List·getD-eq-default}
 use lib.Seq.{getD-set-same, getD-set-other}
-use Rattle.arith.specs.Ranges.{count, count-add, count-same, leastFrom, leastFrom-le, leastFrom-below, leastFrom-holds}
+use Rattle.arith.specs.Ranges.{count, count-add, count-same, leastFrom, leastFrom-is, leastFrom-none, leastFrom-le, leastFrom-below, leastFrom-holds}
 use Rattle.arith.specs.Finite.{least-from}
 use Rattle.grid.specs.Layer.{bit}
 use Rattle.contour.specs.Sets.{words, places, has, Empty}
@@ -126,3 +126,11 @@ word-has t i s low e h l =
       omega (arith, e, least-from (bit x) s (64 - s) .from),
       has-bit t i low l ∙ rw (sym e) at (leastFrom-holds (bit x) s (64 - s) (omega (arith, e))),
     )
+
+-- the least number from `from` on, found by itself, is the least below an end where it is below that, and else there is none below it
+pub least-capped : (f : ℕ → Bool) (from end n : ℕ) → from ≤ end → from ≤ n → f n ≡ true → ((j : ℕ) → from ≤ j → j < n → f j ≡ false)
+    → min n end ≡ leastFrom f from (end - from)
+least-capped f from end n h l t none = elim (decLt n end) [
+  | yes y ↦ omega (arith, leastFrom-is f from (end - from) n l (omega arith) t none)
+  | no g ↦ omega (arith, leastFrom-none f from (end - from) (λ j a b. none j a (omega arith)))
+]

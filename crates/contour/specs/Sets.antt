@@ -31,9 +31,9 @@ pub record FirstSet (L : Layer) (t : List ℕ) : Type 0 where
   pub sized : length t ≡ words
   pub says : (n : ℕ) → has t n ≡ first (walkOf L) (edgeAt (L .size) n)
 
--- the least number of the set from n on, or `places` if there is none, and how many numbers it has
-abbrev pub nextIn : List ℕ → ℕ → ℕ
-nextIn t n = leastFrom (has t) n (places - n)
+-- the least number of the set from n on and below `end`, or `end` if there is none, and how many numbers it has
+abbrev pub nextIn : List ℕ → ℕ → ℕ → ℕ
+nextIn t n end = leastFrom (has t) n (end - n)
 
 abbrev pub sizeOf : List ℕ → ℕ
 sizeOf t = count (has t) places

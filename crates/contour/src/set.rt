@@ -1,7 +1,7 @@
 // A set of edge numbers with one bit for each, in words of 64. Its size is that of a layer with 1,024 columns and rows: as many bits as
 // there are horizontal edges.
 ghost use mathlib.Core.Path.{_≡_};
-ghost use Prim.Native.Nat.{_-_, _≤_, _<_};
+ghost use Prim.Native.Nat.{_-_, _≤_, _<_, min};
 ghost use lib.ListN.{length};
 ghost use Rattle.arith.specs.Ranges.{count, least, leastFrom};
 ghost use Rattle.grid.specs.Layer.{bit};
@@ -64,29 +64,39 @@ fn ones_in(x: u64) -> usize
     u64::count_ones(x) as usize
 }
 
-// The least number of the set from `from` on, or 1,047,552 if there is none.
-pub fn next_first(set: &[u64; 16368], from: usize) -> usize
-    requires { ⌜ length (now set) ≡ words ⌝ }
-    requires { ⌜ from ≤ places ⌝ }
-    ensures { λ r. ⌜ r ≡ nextIn (now (set .entry)) from ⌝ }
+fn at_most(n: usize, end: usize) -> usize
+    ensures { λ r. ⌜ r ≡ min n end ⌝ }
 {
-    let mut word = from / 64;
-    if word == 16368 {
-        return from;
+    if n < end {
+        return n;
     }
+    end
+}
+
+// The least number of the set from `from` on and below `end`, or `end` if there is none. The scan stops at the word that holds `end`.
+pub fn next_first(set: &[u64; 16368], from: usize, end: usize) -> usize
+    requires { ⌜ length (now set) ≡ words ⌝ }
+    requires { ⌜ from ≤ end ⌝ }
+    requires { ⌜ end ≤ places ⌝ }
+    ensures { λ r. ⌜ r ≡ nextIn (now (set .entry)) from end ⌝ }
+{
+    if from == end {
+        return end;
+    }
+    let mut word = from / 64;
     let low = lowest_from(set[word], from % 64);
     if low < 64 {
-        return 64 * word + low;
+        return at_most(64 * word + low, end);
     }
     word += 1;
-    while word < 16368 {
+    while 64 * word < end {
         let x = set[word];
         if x != 0 {
-            return 64 * word + lowest_bit(x);
+            return at_most(64 * word + lowest_bit(x), end);
         }
         word += 1;
     }
-    1047552
+    end
 }
 
 // How many numbers the set has.

@@ -8,7 +8,7 @@ use lib.Dec.{leb}
 use lib.ListN.{length}
 use Rattle.arith.specs.Booleans.{asNumber, one-le, both-sides}
 use Rattle.grid.specs.Layer.{Layer}
-use Rattle.grid.specs.Edges.{isStick, inGrid, edgeAt, edgeCount}
+use Rattle.grid.specs.Edges.{isStick, inGrid, edgeAt, edgeCount, kindStart}
 use Rattle.grid.specs.Walk.{next}
 use Rattle.grid.specs.Questions.{firstNo, Sized, Sound}
 use Rattle.grid.specs.declared.layer.Size.{Size}
@@ -19,7 +19,7 @@ use Rattle.grid.proofs.Numbers.{within, columns-narrow, rows-small, edges-small
 use Rattle.grid.proofs.Answers.{append-all, firstNo-yes}
 use Rattle.contour.specs.Walk.{rest, firstsFrom}
 use Rattle.contour.specs.Contours.{walkOf, contourOf, sameEdge}
-use Rattle.contour.specs.Sets.{places, FirstSet, nextIn}
+use Rattle.contour.specs.Sets.{FirstSet, nextIn}
 use Rattle.contour.proofs.Orbit.{round}
 use Rattle.contour.proofs.Loop.{Due, start, due-one, due-next, rest-more, rest-last}
 use Rattle.contour.proofs.Sticks.{laws}
@@ -142,29 +142,29 @@ module _ (L : Layer) (sound : Sound L) (t : List ℕ) (f : Edge) where
 -- All contours, from the first stick with number n on
 
 module _ (L : Layer) (sound : Sound L) (t s : List ℕ) (set : FirstSet L s) (n : ℕ) where
-  module _ (stop : Stop L n) (below : n < places) where
-    here-first : (n′ : ℕ) → n′ ≡ nextIn s (n + 1)
+  module _ (stop : Stop L n) (below : n < kindStart (L .size) true) where
+    here-first : (n′ : ℕ) → n′ ≡ nextIn s (n + 1) (kindStart (L .size) true)
         → firstUnheld L t (firstsFrom (walkOf L) n) ≡ firstUnheld L t (edgeAt (L .size) n ∷ firstsFrom (walkOf L) n′)
     here-first n′ e = ap (firstUnheld L t) (firsts-turn L sound s set n n′ stop below e)
 
     pub ask-no : heldContour L t (edgeAt (L .size) n) ≡ false → No NotHeld n ≡ firstUnheld L t (firstsFrom (walkOf L) n)
     ask-no h =
         let num = edgeAt-within (L .size) (sound .whole .sized) n (stop-below L sound s set n stop below) .1 in
-        let first : No NotHeld n ≡ firstUnheld L t (edgeAt (L .size) n ∷ firstsFrom (walkOf L) (nextIn s (n + 1))) =
-        rw h (ap (No NotHeld) (sym num)) in
-        first ∙ sym (here-first (nextIn s (n + 1)) refl)
+        let n′ = nextIn s (n + 1) (kindStart (L .size) true) in
+        let first : No NotHeld n ≡ firstUnheld L t (edgeAt (L .size) n ∷ firstsFrom (walkOf L) n′) = rw h (ap (No NotHeld) (sym num)) in
+        first ∙ sym (here-first n′ refl)
 
-    pub ask-next : (n′ : ℕ) → n′ ≡ nextIn s (n + 1) → heldContour L t (edgeAt (L .size) n) ≡ true
+    pub ask-next : (n′ : ℕ) → n′ ≡ nextIn s (n + 1) (kindStart (L .size) true) → heldContour L t (edgeAt (L .size) n) ≡ true
         → firstUnheld L t (firstsFrom (walkOf L) n′) ≡ firstUnheld L t (firstsFrom (walkOf L) n)
     ask-next n′ e h =
         let later : firstUnheld L t (firstsFrom (walkOf L) n′) ≡ firstUnheld L t (edgeAt (L .size) n ∷ firstsFrom (walkOf L) n′) = rw h in
         later ∙ sym (here-first n′ e)
 
-  pub ask-start : n ≡ nextIn s 0 → firstUnheld L t (firstsFrom (walkOf L) n) ≡ heldAnswer L t
+  pub ask-start : n ≡ nextIn s 0 (kindStart (L .size) true) → firstUnheld L t (firstsFrom (walkOf L) n) ≡ heldAnswer L t
   unfolding heldAnswer
   ask-start e = ap (firstUnheld L t) (firsts-start L sound s set n e)
 
-  pub ask-end : places ≤ n → Yes ≡ firstUnheld L t (firstsFrom (walkOf L) n)
+  pub ask-end : kindStart (L .size) true ≤ n → Yes ≡ firstUnheld L t (firstsFrom (walkOf L) n)
   ask-end l = sym (ap (firstUnheld L t) (firsts-end L sound s set n l))
 
 -- What a yes to questions 1 to 7 says

@@ -22,12 +22,13 @@ fn ask_contours(size: Size, bitmap: &[u8], table: &[u16], set: &[u64; 16368]) ->
     requires { ⌜ FirstSet (layerOf size (now bitmap)) (now set) ⌝ }
     ensures { λ r. ⌜ r ≡ heldAnswer (layerOf size (now (bitmap .entry))) (now (table .entry)) ⌝ }
 {
-    let mut n = next_first(set, 0);
-    while n < 1047552 {
+    let end = grid::kind_start(size, true);
+    let mut n = next_first(set, 0, end);
+    while n < end {
         if !held_contour(size, bitmap, table, edge_at(size, n)) {
             return Answer::No(Refusal::NotHeld, n);
         }
-        n = next_first(set, n + 1);
+        n = next_first(set, n + 1, end);
     }
     Answer::Yes
 }

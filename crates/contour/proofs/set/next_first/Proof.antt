@@ -7,26 +7,25 @@ use native.Mathlib.Nat.{mod-lt}
 use native.Mathlib.Omega.{arith}
 use borrow.Author.Needs.{needs}
 use lib.ListN.{getD}
-use Rattle.arith.specs.Ranges.{leastFrom-is, leastFrom-none}
+use Rattle.arith.specs.Ranges.{leastFrom-none}
 use Rattle.grid.specs.Layer.{bit}
-use Rattle.contour.specs.Sets.{has, places}
+use Rattle.contour.specs.Sets.{has}
 use Rattle.contour.proofs.Words.{bit-zero}
-use Rattle.contour.proofs.Sets.{has-bit, word-none, word-has}
+use Rattle.contour.proofs.Sets.{has-bit, word-none, word-has, least-capped}
 use Rattle.contour.proofs.set.next_first.Statement.{statement}
 use Rattle.contour.proofs.set.next_first.Tie as tie
 
 abbrev Inv-loop : tie.InvT-loop
-Inv-loop set from word₀ low word =
+Inv-loop set from end word₀ low word =
     (from ≤ 64 * word) × (word ≤ 16368) × ((j : ℕ) → from ≤ j → j < 64 * word → has set j ≡ false)
 
 abbrev μ-loop : tie.MeasureT-loop
-μ-loop set from word₀ low word = 16368 - word
+μ-loop set from end word₀ low word = 16368 - word
 
 returns : tie.Need-returns Inv-loop μ-loop
 returns c =
     let a = c .before .args in
-    let full : a .from ≡ places = let e = c .if1 .taken in omega (arith, c .before .pre .1) in
-    sym (leastFrom-none (has (a .set .now)) (a .from) (places - a .from) (λ j l u. absurd (omega arith)) ∙ omega arith)
+    sym (leastFrom-none (has (a .set .now)) (a .from) (a .end - a .from) (λ j l u. absurd (omega arith)) ∙ omega arith)
 
 mul-lowest-from : tie.Need-mul-lowest-from Inv-loop μ-loop
 mul-lowest-from c = search needs
@@ -37,25 +36,28 @@ element-copy-out-lowest-from c = search needs
 lowest-from-requires : tie.Need-lowest-from-requires Inv-loop μ-loop
 lowest-from-requires c κs = search needs
 
-mul-result : tie.Need-mul-result Inv-loop μ-loop
-mul-result c = search needs
+mul-at-most : tie.Need-mul-at-most Inv-loop μ-loop
+mul-at-most c = search needs
 
-add-result : tie.Need-add-result Inv-loop μ-loop
-add-result c = search needs
+add-at-most : tie.Need-add-at-most Inv-loop μ-loop
+add-at-most c = search needs
+
+at-most-requires : tie.Need-at-most-requires Inv-loop μ-loop
+at-most-requires c κs = search needs
 
 returns-2 : tie.Need-returns-2 Inv-loop μ-loop
 returns-2 c =
-    let a = c .before .before .before .before .args in
+    let a = c .before .before .before .before .before .args in
     let t = a .set .now in
     let i = a .from / 64 in
     let s = a .from % 64 in
     let below : s < 64 = mod-lt (a .from) (omega arith) in
-    let low = c .before .lowest-from .result in
-    let e = c .before .lowest-from .ensures in
-    let found = word-has t i s low e below (c .if2 .taken) in
-    let apart = c .before .before .before .if1 .left in
-    sym (leastFrom-is (has t) (a .from) (places - a .from) (64 * i + low) (omega arith) (omega arith) (found .1)
-    (λ j l u. word-none t i s low e below j (omega arith) u))
+    let low = c .before .before .lowest-from .result in
+    let e = c .before .before .lowest-from .ensures in
+    let found = word-has t i s low e below (c .before .if2 .taken) in
+    c .at-most .ensures
+    ∙ least-capped (has t) (a .from) (a .end) (64 * i + low) (omega arith) (omega arith) (found .1)
+    (λ j l u. word-none t i s low e below j (omega arith) u)
 
 add-word : tie.Need-add-word Inv-loop μ-loop
 add-word c = search needs
@@ -64,8 +66,7 @@ loop-holds : tie.Need-loop-holds Inv-loop μ-loop
 loop-holds c =
     let a = c .before .before .before .before .args in
     let t = a .set .now in
-    let s = a .from % 64 in
-    let apart = c .before .before .before .if1 .left in (
+    let s = a .from % 64 in (
       omega arith,
       omega arith,
       λ j l u. word-none t (a .from / 64) s (c .before .lowest-from .result) (c .before .lowest-from .ensures) (mod-lt (a .from) (omega arith)) j
@@ -73,34 +74,41 @@ loop-holds c =
           (omega arith),
     )
 
+mul-loop : tie.Need-mul-loop Inv-loop μ-loop
+mul-loop c = search needs
+
 mul-x : tie.Need-mul-x Inv-loop μ-loop
 mul-x c = search needs
 
 element-copy-out-x : tie.Need-element-copy-out-x Inv-loop μ-loop
 element-copy-out-x c = search needs
 
-mul-result-2 : tie.Need-mul-result-2 Inv-loop μ-loop
-mul-result-2 c = search needs
+mul-at-most-2 : tie.Need-mul-at-most-2 Inv-loop μ-loop
+mul-at-most-2 c = search needs
 
 lowest-bit-requires : tie.Need-lowest-bit-requires Inv-loop μ-loop
 lowest-bit-requires c κs = search needs
 
-add-result-2 : tie.Need-add-result-2 Inv-loop μ-loop
-add-result-2 c = search needs
+add-at-most-2 : tie.Need-add-at-most-2 Inv-loop μ-loop
+add-at-most-2 c = search needs
+
+at-most-requires-2 : tie.Need-at-most-requires-2 Inv-loop μ-loop
+at-most-requires-2 c κs = search needs
 
 returns-3 : tie.Need-returns-3 Inv-loop μ-loop
 returns-3 c =
-    let a = c .before .before .before .before .before .before .before .before .before .args in
+    let a = c .before .before .before .before .before .before .before .before .before .before .args in
     let t = a .set .now in
-    let loop = c .before .before .before .before .loop in
-    let z = c .lowest-bit .result in
-    let e = c .lowest-bit .ensures .0 in
-    let found = word-has t (loop .word) 0 z e (omega arith) (c .lowest-bit .ensures .1) in
-    sym (leastFrom-is (has t) (a .from) (places - a .from) (64 * loop .word + z) (omega arith) (omega arith) (found .1)
+    let loop = c .before .before .before .before .before .loop in
+    let z = c .before .lowest-bit .result in
+    let e = c .before .lowest-bit .ensures .0 in
+    let found = word-has t (loop .word) 0 z e (omega arith) (c .before .lowest-bit .ensures .1) in
+    c .at-most2 .ensures
+    ∙ least-capped (has t) (a .from) (a .end) (64 * loop .word + z) (omega arith) (omega arith) (found .1)
     (λ j l u. elim (decLt j (64 * loop .word)) [
       | yes b ↦ loop .inv .2 j l b
       | no g ↦ word-none t (loop .word) 0 z e (omega arith) j (omega arith) u
-    ]))
+    ])
 
 add-word-2 : tie.Need-add-word-2 Inv-loop μ-loop
 add-word-2 c = search needs
@@ -130,8 +138,7 @@ returns-4 c =
     let a = c .before .before .before .before .before .before .args in
     let t = a .set .now in
     let loop = c .before .loop in
-    let end : 64 * loop .word ≡ places = omega arith in
-    sym (leastFrom-none (has t) (a .from) (places - a .from) (λ j l u. loop .inv .2 j l (omega arith)) ∙ omega arith)
+    sym (leastFrom-none (has t) (a .from) (a .end - a .from) (λ j l u. loop .inv .2 j l (omega arith)) ∙ omega arith)
 
 pub next-first-spec : {M : Type 1} → statement M
 next-first-spec =
@@ -143,16 +150,19 @@ next-first-spec =
     mul-lowest-from
     element-copy-out-lowest-from
     lowest-from-requires
-    mul-result
-    add-result
+    mul-at-most
+    add-at-most
+    at-most-requires
     returns-2
     add-word
     loop-holds
+    mul-loop
     mul-x
     element-copy-out-x
-    mul-result-2
+    mul-at-most-2
     lowest-bit-requires
-    add-result-2
+    add-at-most-2
+    at-most-requires-2
     returns-3
     add-word-2
     loop-less
