@@ -6,18 +6,20 @@ use Prim.Native.Nat.{ℕ}
 use borrow.Author.Tests.{not-false}
 use Rattle.grid.specs.Layer.{Layer}
 use Rattle.grid.specs.Edges.{isStick, number, edgeCount}
+use Rattle.grid.specs.Walk.{next, prev}
 use Rattle.grid.specs.Questions.{Sound}
 use Rattle.grid.specs.declared.edge.Edge.{Edge}
 use Rattle.grid.specs.declared.question.Refusal.the-variants.{WrongEntry}
 use Rattle.grid.specs.declared.question.Answer.the-variants.{Yes}
 use Rattle.grid.proofs.Numbers.{number-below, edgeAt-number}
 use Rattle.grid.proofs.Answers.{each-all}
+use Rattle.contour.specs.Walk.{Laws}
 use Rattle.contour.proofs.Sticks.{stick-in}
 use Rattle.table.specs.Entries.{suits, wrongAt, entriesAnswer}
-use Rattle.table.specs.Vertices.{isKept, isRemoved, entryAt, keptAt, removedAt, nextKept}
+use Rattle.table.specs.Vertices.{isKept, isRemoved, entryAt, keptAt, removedAt, keptFrom, nextKept, previousKept}
 use Rattle.table.specs.declared.entry.Entry.{Entry}
 use Rattle.table.specs.declared.entry.Entry.the-variants.{Nothing, Kept, Removed, Wrong}
-use Rattle.table.proofs.GapWalk.{end-stays, end-stick}
+use Rattle.table.proofs.GapWalk.{walkBy, forth, back, end-stays, end-stick}
 
 module _ (L : Layer) (sound : Sound L) (t : List ℕ) (yes : entriesAnswer L t ≡ Yes) where
   pub entry-suits : (e : Edge) → isStick L e ≡ true → suits true (entryAt L t e) ≡ true
@@ -40,5 +42,14 @@ module _ (L : Layer) (sound : Sound L) (t : List ℕ) (yes : entriesAnswer L t �
       go (Removed o) s f = absurd (true≢false f)
       go Wrong s f = absurd (false≢true s)
 
+  -- where the walk over removed sticks ends, ahead or back
+  ends-kept : (step undo : Edge → Edge) → Laws (walkBy step undo L) → (e : Edge) → isStick L e ≡ true → removedAt L t e ≡ false
+      → keptAt L t (keptFrom step L t (edgeCount (L .size)) e) ≡ true
+  ends-kept step undo law e stick r =
+      stays-kept (keptFrom step L t (edgeCount (L .size)) e) (end-stick step undo L t law e stick r) (end-stays step undo L t law e stick r)
+
   pub end-kept : (e : Edge) → isStick L e ≡ true → removedAt L t e ≡ false → keptAt L t (nextKept L t e) ≡ true
-  end-kept e stick r = stays-kept (nextKept L t e) (end-stick L sound t e stick r) (end-stays L sound t e stick r)
+  end-kept e stick r = ends-kept (next L) (prev L) (forth L sound) e stick r
+
+  pub start-kept : (e : Edge) → isStick L e ≡ true → removedAt L t e ≡ false → keptAt L t (previousKept L t e) ≡ true
+  start-kept e stick r = ends-kept (prev L) (next L) (back L sound) e stick r

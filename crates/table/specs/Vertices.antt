@@ -54,12 +54,15 @@ unfoldable pub keptFrom : (Edge → Edge) → Layer → List ℕ → ℕ → Edg
 keptFrom step L t zero e = step e
 keptFrom step L t (suc n) e = elim (removedAt L t (step e)) [ true ↦ keptFrom step L t n (step e) | false ↦ step e ]
 
--- the removed sticks between a stick and the next kept one, and that one; and the kept one before it
+-- the removed sticks between a stick and the next kept one, and that one; the same going back
 abbrev pub gapAfter : Layer → List ℕ → Edge → List Edge
 gapAfter L t e = removedFrom (next L) L t (edgeCount (L .size)) e
 
 abbrev pub nextKept : Layer → List ℕ → Edge → Edge
 nextKept L t e = keptFrom (next L) L t (edgeCount (L .size)) e
+
+abbrev pub gapBefore : Layer → List ℕ → Edge → List Edge
+gapBefore L t e = removedFrom (prev L) L t (edgeCount (L .size)) e
 
 abbrev pub previousKept : Layer → List ℕ → Edge → Edge
 previousKept L t e = keptFrom (prev L) L t (edgeCount (L .size)) e

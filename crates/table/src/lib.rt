@@ -1,4 +1,4 @@
-// The hold table: an entry taken apart, questions 5, 6 and 15, and the next kept vertex of a contour.
+// The hold table: an entry taken apart, questions 5, 6 and 15, and the next and the previous kept vertex of a contour.
 mod entry;
 mod question;
 mod vertex;
@@ -15,3 +15,4 @@ pub use vertex::is_removed;
 pub use vertex::offset_in;
 pub use walk::EdgeEnd;
 pub use walk::kept_after;
+pub use walk::kept_before;

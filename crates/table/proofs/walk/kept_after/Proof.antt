@@ -7,15 +7,16 @@ use borrow.Author.Needs.{needs}
 use borrow.Author.Tests.{not-true, not-false}
 use Rattle.grid.specs.Layer.{layerOf}
 use Rattle.grid.specs.Edges.{edgeCount}
+use Rattle.grid.specs.Walk.{next, prev}
 use Rattle.table.specs.Vertices.{isRemoved, removedAt}
 use Rattle.contour.proofs.Sticks.{stick-in}
 use Rattle.grid.proofs.Numbers.{edges-small}
-use Rattle.table.proofs.GapWalk.{Passed, passed-start, passed-here, passed-below, passed-stick, passed-turn, passed-end, passed-length}
+use Rattle.table.proofs.GapWalk.{forth, Passed, passed-start, passed-here, passed-below, passed-stick, passed-turn, passed-last}
 use Rattle.table.proofs.walk.kept_after.Statement.{statement}
 use Rattle.table.proofs.walk.kept_after.Tie as tie
 
 abbrev Inv-loop : tie.InvT-loop
-Inv-loop size bitmap table at₀ gap₀ at gap = Passed (layerOf size bitmap) table at₀ at gap
+Inv-loop size bitmap table at₀ gap₀ at gap = let L = layerOf size bitmap in Passed (next L) (prev L) L table at₀ at gap
 
 abbrev μ-loop : tie.MeasureT-loop
 μ-loop size bitmap table at₀ gap₀ at gap = edgeCount size - gap
@@ -26,7 +27,7 @@ loop-holds c =
     let given = c .before .before .pre in
     let L = layerOf (a .size) (a .bitmap .now) in
     let t = a .table .now in
-    passed-start L (given .0) t (a .e) (given .1 .1 .0)
+    passed-start (next L) (prev L) L t (forth L (given .0)) (a .e) (given .1 .1 .0)
 
 next-stick-requires : tie.Need-next-stick-requires Inv-loop μ-loop
 next-stick-requires c κs =
@@ -34,8 +35,7 @@ next-stick-requires c κs =
     let given = c .before .before .before .pre in
     let L = layerOf (a .size) (a .bitmap .now) in
     let t = a .table .now in
-    let loop = c .loop in
-    (given .0, passed-here L (given .0) t (a .e) (given .1 .1 .0) (loop .at) (loop .gap) (loop .inv))
+    (given .0, passed-here (next L) (prev L) L t (forth L (given .0)) (a .e) (given .1 .1 .0) (c .loop .at) (c .loop .gap) (c .loop .inv))
 
 entry-at-requires : tie.Need-entry-at-requires Inv-loop μ-loop
 entry-at-requires c κs =
@@ -45,7 +45,8 @@ entry-at-requires c κs =
     let t = a .table .now in
     let loop = c .before .loop in
     let step = c .next-stick in
-    (given .0 .whole .sized, (given .1 .0, stick-in L (step .result) (passed-stick L (given .0) t (a .e) (given .1 .1 .0) (loop .at) (step .result) (loop .gap) (loop .inv) (step .ensures))))
+    let stick = passed-stick (next L) (prev L) L t (forth L (given .0)) (a .e) (given .1 .1 .0) (loop .at) (step .result) (loop .gap) (loop .inv) (step .ensures) in
+    (given .0 .whole .sized, (given .1 .0, stick-in L (step .result) stick))
 
 is-removed-requires : tie.Need-is-removed-requires Inv-loop μ-loop
 is-removed-requires c κs = search needs
@@ -58,7 +59,7 @@ add-gap c =
     let t = a .table .now in
     let loop = c .before .before .before .before .loop in
     let small = edges-small (L .size) (given .0 .whole .sized) in
-    omega (arith, passed-below L (given .0) t (a .e) (given .1 .1 .0) (loop .at) (loop .gap) (loop .inv))
+    omega (arith, passed-below (next L) (prev L) L t (forth L (given .0)) (a .e) (given .1 .1 .0) (loop .at) (loop .gap) (loop .inv))
 
 loop-less : tie.Need-loop-less Inv-loop μ-loop
 loop-less c =
@@ -67,7 +68,7 @@ loop-less c =
     let L = layerOf (a .size) (a .bitmap .now) in
     let t = a .table .now in
     let loop = c .before .before .before .before .loop in
-    omega (arith, passed-below L (given .0) t (a .e) (given .1 .1 .0) (loop .at) (loop .gap) (loop .inv))
+    omega (arith, passed-below (next L) (prev L) L t (forth L (given .0)) (a .e) (given .1 .1 .0) (loop .at) (loop .gap) (loop .inv))
 
 loop-again : tie.Need-loop-again Inv-loop μ-loop
 unfolding removedAt
@@ -80,7 +81,8 @@ loop-again c =
     let step = c .before .before .before .next-stick in
     let entry = sym (ap isRemoved (c .before .before .entry-at .ensures)) ∙ sym (c .before .is-removed .ensures) in
     let removed : removedAt L t (step .result) ≡ true = entry ∙ not-false _ (c .if1 .left) in
-    passed-turn L (given .0) t (a .e) (given .1 .1 .0) (loop .at) (step .result) (loop .gap) (loop .inv) (step .ensures) (given .1 .1 .1) removed
+    passed-turn (next L) (prev L) L t (forth L (given .0)) (a .e) (given .1 .1 .0) (loop .at) (step .result) (loop .gap) (loop .inv) (step .ensures)
+    (given .1 .1 .1) removed
 
 returns : tie.Need-returns Inv-loop μ-loop
 unfolding removedAt
@@ -92,10 +94,8 @@ returns c =
     let loop = c .before .before .before .before .loop in
     let step = c .before .before .before .next-stick in
     let entry = sym (ap isRemoved (c .before .before .entry-at .ensures)) ∙ sym (c .before .is-removed .ensures) in
-    let stays : removedAt L t (step .result) ≡ false = entry ∙ not-true _ (c .if1 .taken) in (
-      passed-end L (given .0) t (a .e) (given .1 .1 .0) (loop .at) (step .result) (loop .gap) (loop .inv) (step .ensures) stays,
-      (passed-length L (given .0) t (a .e) (given .1 .1 .0) (loop .at) (step .result) (loop .gap) (loop .inv) (step .ensures) stays, passed-stick L (given .0) t (a .e) (given .1 .1 .0) (loop .at) (step .result) (loop .gap) (loop .inv) (step .ensures)),
-    )
+    let stays : removedAt L t (step .result) ≡ false = entry ∙ not-true _ (c .if1 .taken) in
+    passed-last (next L) (prev L) L t (forth L (given .0)) (a .e) (given .1 .1 .0) (loop .at) (step .result) (loop .gap) (loop .inv) (step .ensures) stays
 
 pub kept-after-spec : {M : Type 1} → statement M
 kept-after-spec =
