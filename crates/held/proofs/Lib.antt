@@ -15,4 +15,5 @@ pub mod Neighbours
 pub mod Holding
 pub mod Meaning
 pub mod Removal
+pub mod Stores
 pub mod Asking

@@ -2,9 +2,9 @@
 use mathlib.Core.Path.{_≡_, refl, sym, _∙_, ap}
 use mathlib.Core.Bool.{Bool, true, false, true≢false, cond, not, _&&_}
 use mathlib.Core.List.{List}
-use Prim.Native.Nat.{ℕ, _-_, _≤_, _<_}
+use Prim.Native.Nat.{ℕ, _+_, _-_, _≤_, _<_}
 use native.Mathlib.Omega.{arith}
-use borrow.Author.Tests.{eqb-true, eqb-false, leb-true, ne-eqb, le-leb}
+use borrow.Author.Tests.{eqb-true, eqb-false, leb-true, ne-eqb, le-leb, lt-leb}
 use lib.Dec.{eqb, leb}
 use lib.ListN.{length, getD}
 use Rattle.arith.specs.Booleans.{both-sides}
@@ -42,6 +42,17 @@ pub record AllKept (L : Layer) (t : List ℕ) : Type 0 where
 pub kept-entry : (n : ℕ) → Inside n → entryOf n ≡ Kept n
 unfolding entryOf
 kept-entry n i = rw (ne-eqb n 0 (λ e. omega arith), le-leb n 255 (i .high))
+
+pub removed-entry : (n : ℕ) → Inside n → entryOf (256 + n) ≡ Removed n
+unfolding entryOf
+removed-entry n i =
+    let back : 256 + n - 256 ≡ n = omega arith in
+    rw (
+      ne-eqb (256 + n) 0 (λ e. omega arith),
+      lt-leb (256 + n) 255 (omega arith),
+      le-leb 257 (256 + n) (omega (arith, i)),
+      le-leb (256 + n) 511 (omega (arith, i)),
+    ) (ap Removed back)
 
 entry-zero : entryOf 0 ≡ Nothing
 unfolding entryOf
