@@ -16,4 +16,5 @@ pub mod Holding
 pub mod Meaning
 pub mod Removal
 pub mod Stores
+pub mod Edits
 pub mod Asking
