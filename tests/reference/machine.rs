@@ -1,6 +1,7 @@
 // What runs a script: W, H, a bitmap and a table, the calls on them, and the
 // line that answers each call.
 
+use crate::hold::ask_1_to_7;
 use crate::layer::Refusal;
 use crate::planner::planner;
 use crate::program::program;
@@ -108,6 +109,7 @@ impl Machine {
         match command {
             Command::Trace => self.trace(),
             Command::Counts => self.counts(),
+            Command::Held => self.held(),
             Command::Smooth { limit } => self.smooth(*limit),
             Command::Simplify { t } => self.simplify(*t),
             Command::Roll { t, bytes } => self.roll(*t, bytes),
@@ -143,6 +145,12 @@ impl Machine {
             ]
         });
         Answer::new(figures, 3)
+    }
+
+    /// Questions 1 to 7, which are no call of their own: they come first in most.
+    fn held(&self) -> Answer {
+        let outcome = ask_1_to_7(self.w, self.h, &self.bitmap, &self.table);
+        Answer::new(outcome.map(|_| Vec::new()), 0)
     }
 
     fn smooth(&mut self, limit: u16) -> Answer {

@@ -14,6 +14,7 @@ pub enum Command {
     Poke { index: u32, value: u16 },
     Trace,
     Counts,
+    Held,
     Smooth { limit: u16 },
     Simplify { t: u8 },
     Roll { t: u8, bytes: Vec<u8> },
@@ -42,6 +43,7 @@ impl Command {
             Command::Poke { .. } => b'P',
             Command::Trace => b'T',
             Command::Counts => b'N',
+            Command::Held => b'H',
             Command::Smooth { .. } => b'S',
             Command::Simplify { .. } => b'Y',
             Command::Roll { .. } => b'R',
@@ -68,7 +70,7 @@ impl Command {
             Command::Poke { index, value } => {
                 [index.to_le_bytes().to_vec(), value.to_le_bytes().to_vec()].concat()
             }
-            Command::Trace | Command::Counts => Vec::new(),
+            Command::Trace | Command::Counts | Command::Held => Vec::new(),
             Command::Smooth { limit } => limit.to_le_bytes().to_vec(),
             Command::Simplify { t } => vec![*t],
             Command::Roll { t, bytes } => [vec![*t], counted(bytes)].concat(),
@@ -156,6 +158,7 @@ impl<'a> Source<'a> {
         match letter {
             b'T' => Ok(Command::Trace),
             b'N' => Ok(Command::Counts),
+            b'H' => Ok(Command::Held),
             b'S' => self.u16().map(|limit| Command::Smooth { limit }),
             b'Y' => self.u8().map(|t| Command::Simplify { t }),
             b'R' => {

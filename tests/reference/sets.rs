@@ -12,7 +12,7 @@ pub struct Set {
     fill: fn(&mut Builder),
 }
 
-pub const SETS: [Set; 9] = [
+pub const SETS: [Set; 10] = [
     Set {
         name: "trace",
         seed: 101,
@@ -27,6 +27,11 @@ pub const SETS: [Set; 9] = [
         name: "view",
         seed: 103,
         fill: sets_bitmap::view,
+    },
+    Set {
+        name: "held",
+        seed: 110,
+        fill: sets_table::held,
     },
     Set {
         name: "smooth",

@@ -2,10 +2,11 @@
 // tables as traced, with other offsets, and damaged.
 
 use crate::builder::{edit_bytes, Builder};
+use crate::contour::contours;
 use crate::hold::{is_kept, is_removed};
 use crate::layer::{Edge, Layer};
 use crate::picture;
-use crate::refusals::{ask_1_to_7, not_held, plain, some_removed, Call};
+use crate::refusals::{ask_1_to_7, not_held, plain, remove_at_random, some_removed, Call};
 use crate::script::Command;
 
 const LIMITS: [u16; 7] = [0, 1, 2, 9, 10, 50, 65535];
@@ -93,6 +94,50 @@ fn threshold(b: &mut Builder) {
         }
         b.add(Command::Smooth { limit });
     }
+}
+
+/// Removes the vertices of these sticks, and asks.
+fn held_without(b: &mut Builder, layer: &Layer, sticks: &[usize]) {
+    b.traced(layer);
+    for &stick in sticks {
+        b.poke(stick, 384);
+    }
+    b.add(Command::Held);
+}
+
+/// Bars one above the other, each a contour: in each in turn nothing wrong, too few kept vertices, a chord that
+/// touches or misses a sample, the edge back to the first kept vertex wrong alone, the first stick removed.
+fn each_way_in_each_contour(b: &mut Builder) {
+    let bars = picture::shown("....... .#####. ....... .#####. ....... .#####. .......");
+    for contour in contours(&bars) {
+        let n = contour.len();
+        let all_but = |kept: &[usize]| -> Vec<usize> {
+            let removed = (0..n).filter(|i| !kept.contains(i));
+            removed.map(|i| contour[i]).collect()
+        };
+        for kept in [&[][..], &[0], &[0, 6], &[0, 1, 6, 7], &[1, 2, 7, 8], &[0, 3, 6], &[5, 6, 11], &[2, 4, 8, 10]] {
+            held_without(b, &bars, &all_but(kept));
+        }
+        for i in 0..n {
+            held_without(b, &bars, &[contour[i]]);
+            held_without(b, &bars, &[contour[i], contour[(i + 1) % n], contour[(i + 2) % n]]);
+        }
+    }
+}
+
+/// Questions 1 to 7: B, M, P, T and H only.
+pub fn held(b: &mut Builder) {
+    let ask = plain(Command::Held);
+    ask_1_to_7(b, &ask);
+    each_way_in_each_contour(b);
+    for layer in regular_layers() {
+        b.traced(&layer);
+        b.thin(40);
+        b.add(Command::Held);
+        remove_at_random(b, 2);
+        b.add(Command::Held);
+    }
+    not_held(b, &ask, 60);
 }
 
 /// Smooth: B, M, P, T and S only.

@@ -74,6 +74,7 @@ fn command(command: &Command) -> String {
         Command::Poke { index, value } => format!("entry {} = {}\n", index, value),
         Command::Trace => "Trace\n".to_string(),
         Command::Counts => "Counts\n".to_string(),
+        Command::Held => "questions 1 to 7\n".to_string(),
         Command::Smooth { limit } => format!("Smooth, limit {}\n", limit),
         Command::Simplify { t } => format!("Simplify, T {}\n", t),
         Command::Roll { t, bytes } => {

@@ -302,6 +302,7 @@ fn wanted_numbers(name: &str) -> Vec<u64> {
     match name {
         "trace" | "counts" => vec![0, 1, 2, 3, 4, 5],
         "view" => vec![0, 1, 2, 3, 4],
+        "held" => vec![0, 1, 2, 3, 4, 5, 6, 7],
         "smooth" | "simplify" => vec![0, 1, 2, 3, 4, 5, 6, 7, 15],
         "roll" => vec![0, 1, 2, 3, 4, 5, 6, 7, 8, 9, 10, 11, 12],
         "sheet" => vec![0, 1, 2, 3, 4, 5, 6, 7, 8, 14],
@@ -379,6 +380,7 @@ fn is_main(name: &str, line: &str) -> bool {
         "trace" => "T",
         "counts" => "N",
         "view" => "V",
+        "held" => "H",
         "smooth" => "S",
         "simplify" => "Y",
         "roll" => "R",

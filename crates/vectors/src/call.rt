@@ -1,4 +1,4 @@
-// The calls of the library that a script makes: T is Trace, N is Counts. A call is an arm of `call` and a function that reads its fields,
+// The calls of the library that a script makes: T is Trace, N is Counts, H is questions 1 to 7. A call is an arm of `call` and a function that reads its fields,
 // makes it and gives its answer.
 use super::command::State;
 use super::command::read_to;
@@ -7,6 +7,8 @@ use super::line;
 use super::line::Answer;
 use super::reader;
 use super::reader::Reader;
+use grid::Answer as Question;
+use grid::Size;
 use trace::Counted;
 use trace::Traced;
 
@@ -50,6 +52,7 @@ fn call(letter: u8, input: &mut [u8], bitmap: &[u8], table: &mut [u16], state: S
     match letter {
         b'T' => trace_call(bitmap, table, state),
         b'N' => counts_call(bitmap, table, state),
+        b'H' => held_call(bitmap, table, state),
         _ => unknown_call(),
     }
 }
@@ -80,6 +83,20 @@ fn counts_call(bitmap: &[u8], table: &[u16], state: State) -> Called {
             contours,
         } => line::done([inside as u64, sticks as u64, contours as u64, 0], 3),
         Counted::Refused(question, place) => line::refused(question, place, 3),
+    };
+    let next = state.reader;
+    Called { answer, next }
+}
+
+fn held_call(bitmap: &[u8], table: &[u16], state: State) -> Called {
+    let size = Size {
+        width: state.w as usize,
+        height: state.h as usize,
+    };
+    let held = held::ask_layer_held(size, bitmap, table);
+    let answer = match held {
+        Question::Yes => line::done([0u64; 4], 0),
+        Question::No(question, place) => line::refused(question, place, 0),
     };
     let next = state.reader;
     Called { answer, next }
