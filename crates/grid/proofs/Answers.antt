@@ -11,7 +11,7 @@ use lib.ListN.{length}
 use Rattle.arith.specs.Booleans.{both-sides, and-split}
 use Rattle.arith.specs.Ranges.{least, least-is, least-none, leastFrom-below, leastFrom-le}
 use Rattle.grid.specs.Layer.{Layer, stride}
-use Rattle.grid.specs.Questions.{firstNo, ask, askEach, inRange, sidesAnswer, lengthAnswer, spareSet, spareAnswer, borderIn, borderAt, borderAnswer, layerQuestions, Sized, Whole, Sound}
+use Rattle.grid.specs.Questions.{numberOf, firstNo, ask, askEach, inRange, sidesAnswer, lengthAnswer, spareSet, spareAnswer, borderIn, borderAt, borderAnswer, layerQuestions, Sized, Whole, Sound}
 use Rattle.grid.specs.declared.layer.Size.{Size}
 use Rattle.grid.specs.declared.question.Refusal.{Refusal}
 use Rattle.grid.specs.declared.question.Refusal.the-variants as Refusal
@@ -20,6 +20,24 @@ use Rattle.grid.specs.declared.question.Answer.the-variants.{Yes, No}
 
 pub no-not-yes : (q : Refusal) (p : ℕ) → No q p ≡ Yes → ⊥
 no-not-yes q p e = let z : _≡_ {A = ℕ} 0 1 = cc in omega arith
+
+-- the number of a refusal is not 0, which stands for done
+pub number-some : (q : Refusal) → 1 ≤ numberOf q
+number-some Refusal.BadSides = omega arith
+number-some Refusal.BitmapLength = omega arith
+number-some Refusal.SpareBits = omega arith
+number-some Refusal.BorderInside = omega arith
+number-some Refusal.TableLength = omega arith
+number-some Refusal.WrongEntry = omega arith
+number-some Refusal.NotHeld = omega arith
+number-some Refusal.Malformed = omega arith
+number-some Refusal.NoKeptVertex = omega arith
+number-some Refusal.BadOffset = omega arith
+number-some Refusal.NoCrossing = omega arith
+number-some Refusal.BeyondTolerance = omega arith
+number-some Refusal.TooFewKept = omega arith
+number-some Refusal.ShortOutput = omega arith
+number-some Refusal.SomeRemoved = omega arith
 
 -- the lowest number that fails is the place of the no
 pub each-no : (q : Refusal) (f : ℕ → Bool) (n k : ℕ) → k < n → f k ≡ true → ((j : ℕ) → j < k → f j ≡ false) → No q k ≡ askEach q f n

@@ -1,5 +1,5 @@
 -- When question 7 is answered yes: if each drawn edge crosses every removed stick between its ends, and each contour has a kept vertex. That
--- each contour has three follows (FourKept). So a table that removes nothing is held.
+-- each contour has three follows (FourKept). So a table that removes nothing is held, and passes every question before 7 too.
 use mathlib.Core.Path.{_≡_, refl, ap}
 use mathlib.Core.Bool.{Bool, true, false, not, _||_, or-true}
 use mathlib.Core.List.{List, [], _∷_}
@@ -19,9 +19,11 @@ use Rattle.contour.proofs.Members.{on-one, on-self}
 use Rattle.contour.proofs.Sticks.{laws, same-self}
 use Rattle.contour.proofs.Theorems.{first-sticks-only}
 use Rattle.table.specs.Vertices.{keptAt, removedAt}
+use Rattle.table.proofs.AllKept.{AllKept, not-removed, passes-entries}
 use Rattle.held.specs.Held.{each, among, edgeCrosses, heldContour, firstUnheld, heldAnswer}
+use Rattle.held.specs.Questions.{Accepted}
 use Rattle.held.specs.Faithful.{Drawn}
-use Rattle.held.proofs.Vertices.{Vertices, kept-of}
+use Rattle.held.proofs.Vertices.{Vertices, vertices-of, kept-of}
 use Rattle.held.proofs.FourKept.{four-kept, nothing-crossed}
 
 module _ (L : Layer) where
@@ -64,3 +66,13 @@ module _ (L : Layer) (t : List ℕ) (sound : Sound L) (vertices : Vertices L t) 
       layer-held (λ p d. nothing-crossed L t sound none p (d .stick)) (λ f h.
       let stick = first-one (walkOf L) (laws L sound) f h in
       (f, on-self (walkOf L) (laws L sound) f stick, kept-of L t sound vertices f stick (none f stick) .kept))
+
+pub all-kept-accepted : (L : Layer) (t : List ℕ) → Sound L → AllKept L t → Accepted L t
+all-kept-accepted L t sound kept =
+    let yes-6 = passes-entries L t kept (sound .whole .sized) in
+    record {
+      sound = sound;
+      exact = kept .whole;
+      entries = yes-6;
+      held = kept-held L t sound (vertices-of L t sound yes-6) (not-removed L t kept);
+    }
