@@ -5,5 +5,5 @@ mod question;
 mod walk;
 
 pub use edge::vertex_at;
-pub use question::ask_held;
+pub use question::ask_held_firsts;
 pub use question::ask_layer_held;

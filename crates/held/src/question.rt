@@ -11,7 +11,8 @@ ghost use lib.ListN.{length};
 ghost use Rattle.grid.specs.Layer.{layerOf};
 ghost use Rattle.grid.specs.Edges.{edgeCount};
 ghost use Rattle.grid.specs.Questions.{firstNo, Sound};
-ghost use Rattle.contour.specs.Sets.{FirstSet};
+ghost use Rattle.grid.specs.declared.question.Answer.the-variants.{Yes};
+ghost use Rattle.contour.specs.Sets.{Empty, FirstSet};
 ghost use Rattle.held.specs.Held.{heldAnswer};
 ghost use Rattle.held.specs.Questions.{heldQuestions};
 
@@ -33,20 +34,23 @@ fn ask_contours(size: Size, bitmap: &[u8], table: &[u16], set: &[u64; 16368]) ->
     Answer::Yes
 }
 
-// Question 7, of a layer that passed 1 to 5.
-pub fn ask_held(size: Size, bitmap: &[u8], table: &[u16]) -> Answer
+// Question 7, of a layer that passed 1 to 5; the set is then that of its first sticks.
+fn ask_held(size: Size, bitmap: &[u8], table: &[u16], set: &mut [u64; 16368]) -> Answer
     requires { ⌜ Sound (layerOf size (now bitmap)) ⌝ }
     requires { ⌜ length (now table) ≡ edgeCount size ⌝ }
+    requires { ⌜ Empty (now set) ⌝ }
     ensures { λ r. ⌜ r ≡ heldAnswer (layerOf size (now (bitmap .entry))) (now (table .entry)) ⌝ }
+    ensures { λ r. ⌜ FirstSet (layerOf size (now (bitmap .entry))) (now (set .exit)) ⌝ }
 {
-    let mut set: [u64; 16368] = [0; 16368];
-    first_sticks(size, bitmap, &mut set);
-    ask_contours(size, bitmap, table, &set)
+    first_sticks(size, bitmap, set);
+    ask_contours(size, bitmap, table, set)
 }
 
-// Questions 1 to 7.
-pub fn ask_layer_held(size: Size, bitmap: &[u8], table: &[u16]) -> Answer
+// Questions 1 to 7. Where all are answered yes, the set is that of the first sticks, for what the call does next.
+pub fn ask_held_firsts(size: Size, bitmap: &[u8], table: &[u16], set: &mut [u64; 16368]) -> Answer
+    requires { ⌜ Empty (now set) ⌝ }
     ensures { λ r. ⌜ r ≡ firstNo (heldQuestions (layerOf size (now (bitmap .entry))) (now (table .entry))) ⌝ }
+    ensures { λ r. ⌜ (r ≡ Yes → FirstSet (layerOf size (now (bitmap .entry))) (now (set .exit))) ⌝ }
 {
     let lengths = table::ask_lengths(size, bitmap, table.len());
     let Answer::Yes = lengths else {
@@ -56,5 +60,13 @@ pub fn ask_layer_held(size: Size, bitmap: &[u8], table: &[u16]) -> Answer
     let Answer::Yes = entries else {
         return entries;
     };
-    ask_held(size, bitmap, table)
+    ask_held(size, bitmap, table, set)
+}
+
+// Questions 1 to 7, for a call that needs no set.
+pub fn ask_layer_held(size: Size, bitmap: &[u8], table: &[u16]) -> Answer
+    ensures { λ r. ⌜ r ≡ firstNo (heldQuestions (layerOf size (now (bitmap .entry))) (now (table .entry))) ⌝ }
+{
+    let mut set: [u64; 16368] = [0; 16368];
+    ask_held_firsts(size, bitmap, table, &mut set)
 }
