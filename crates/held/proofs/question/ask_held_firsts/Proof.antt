@@ -48,7 +48,7 @@ returns-2 c =
     let five = sym (c .before .before .before .before .before .ask-lengths .ensures) ∙ c .before .before .before .enum-told .given .1 in
     let no-here = c .enum-told4 .given .1 in (
       first-no (heldAnswer L t ∷ []) (c .before .before .ask-entries .ensures) no-here
-      ∙ append-yes (lengthQuestions L (length t)) (entriesAnswer L t ∷ heldAnswer L t ∷ []) five,
+          ∙ append-yes (lengthQuestions L (length t)) (entriesAnswer L t ∷ heldAnswer L t ∷ []) five,
       λ y. absurd (no-not-yes _ _ (sym no-here ∙ y)),
     )
 
@@ -69,9 +69,9 @@ returns-3 c =
     let five = sym (c .before .before .before .before .before .before .before .ask-lengths .ensures) ∙ c .before .before .before .before .before .enum-told .given .1 in
     let asked = c .ask-held .ensures in (
       asked .0
-      ∙ first-only (heldAnswer L t)
-      ∙ first-yes (heldAnswer L t ∷ []) (c .before .before .before .before .ask-entries .ensures) (c .before .before .enum-told3 .given .1)
-      ∙ append-yes (lengthQuestions L (length t)) (entriesAnswer L t ∷ heldAnswer L t ∷ []) five,
+          ∙ first-only (heldAnswer L t)
+          ∙ first-yes (heldAnswer L t ∷ []) (c .before .before .before .before .ask-entries .ensures) (c .before .before .enum-told3 .given .1)
+          ∙ append-yes (lengthQuestions L (length t)) (entriesAnswer L t ∷ heldAnswer L t ∷ []) five,
       λ _. asked .1,
     )
 
