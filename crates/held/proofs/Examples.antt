@@ -1,6 +1,7 @@
 -- `Faithful` holds of the traced single sample of the paper, and is refused by three wrong tables for it: a drawn edge over a sample, a contour
--- with two kept vertices, and a stick without a vertex.
+-- with two kept vertices, and a stick without a vertex. Two other layers refuse one more each: an edge that touches a sample, and edges that meet.
 use mathlib.Core.Path.{_≡_, refl, ap}
+use mathlib.Core.Logic.{_⊎_, inl, inr, _≢_}
 use mathlib.Core.Bool.{Bool, true, false, xor}
 use mathlib.Core.List.{List, [], _∷_}
 use Prim.Native.Nat.{ℕ, _+_, _*_, _<_}
@@ -89,3 +90,57 @@ no-vertex f =
     let v = f .vertices (edge true 1 0) refl .kept-or-removed in
     let n : _≡_ {A = ℕ} 0 1 = ap asNumber v in
     omega arith
+
+-- "W 4, H 5", with the samples (1,1), (2,1), (1,2), (2,2) and (2,3) inside: two columns with a step at (1,2). Its ten entries by number are
+-- 3, 5, 6, 8, 10, 11, 16, 17, 24 and 29; 6 and 24 are those of the two sticks at (1,2).
+abbrev pub stair : Layer
+stair = layerOf (sizeOf 4 5) (0 ∷ 6 ∷ 6 ∷ 4 ∷ 0 ∷ [])
+
+abbrev pub stairEntries : ℕ → ℕ → List ℕ
+stairEntries a b =
+    0 ∷ 0 ∷ 0 ∷ 128 ∷ 0 ∷ 128 ∷ a ∷ 0 ∷ 128 ∷ 0 ∷ 128 ∷ 128 ∷ 0 ∷ 0 ∷ 0
+    ∷ 0 ∷ 128 ∷ 128 ∷ 0 ∷ 0 ∷ 0 ∷ 0 ∷ 0 ∷ 0 ∷ b ∷ 0 ∷ 0 ∷ 0 ∷ 0 ∷ 128 ∷ 0 ∷ []
+
+-- With both removed, the drawn edge past the step runs through the sample (1,2). It meets each of the two removed sticks in one point, that
+-- sample, so that every stick is passed once, all contours are closed and no two drawn edges meet elsewhere; but it also passes between
+-- (1,2) and (2,2), which are both inside.
+pub touches-sample : Faithful stair (stairEntries 384 384) → ⊥
+unfolding isStick sample bit xor keptAt removedAt offsetAt keptFrom entryOf number edgeCount next
+touches-sample f =
+    let p = edge false 1 3 in
+    let e = edge false 1 2 in
+    let t = stairEntries 384 384 in
+    let z : Point = point (record { x = 256; y = 512 }) in
+    f .passes-never e refl refl z (record {
+      from = p;
+      drawn = record { stick = refl; kept = refl };
+      on-drawn = mean 1 1 (vertex stair t p) (vertex stair t (nextKept stair t p)) z refl refl (omega arith) refl refl;
+      on-segment = mean 1 0 (start e) (end e) z refl refl (omega arith) refl refl;
+    })
+
+-- "W 5, H 4", with the samples (1,1), (1,2), (2,2), (3,2) and (3,1) inside: an arch. Its twelve entries by number are 4 to 8, 11, 17, 19, 23
+-- and 27 to 29; 11 and 27 to 29 are those of the sticks over its top, and 23 is that of the one under it.
+abbrev pub arch : Layer
+arch = layerOf (sizeOf 5 4) (0 ∷ 10 ∷ 14 ∷ 0 ∷ [])
+
+abbrev pub archEntries : ℕ → ℕ → List ℕ
+archEntries top under =
+    0 ∷ 0 ∷ 0 ∷ 0 ∷ 128 ∷ 128 ∷ 128 ∷ 128 ∷ 128 ∷ 0 ∷ 0 ∷ top ∷ 0 ∷ 0 ∷ 0 ∷ 0
+    ∷ 0 ∷ 128 ∷ 0 ∷ 128 ∷ 0 ∷ 0 ∷ 0 ∷ under ∷ 0 ∷ 0 ∷ 0 ∷ top ∷ top ∷ top ∷ 0 ∷ []
+
+-- With those over the top removed, the drawn edge from the right foot to the left shoulder runs under the arch's inner side and meets the drawn
+-- edges there, which are no neighbours of it. (It also misses the four sticks over the top.)
+pub edges-meet : Faithful arch (archEntries 384 192) → ⊥
+unfolding isStick sample bit xor keptAt removedAt offsetAt keptFrom entryOf number edgeCount next
+edges-meet f =
+    let p = edge false 3 1 in
+    let q = edge true 2 1 in
+    let t = archEntries 384 192 in
+    let z : Point = record { x = pos 3968; y = pos 2560; d = 7; above = omega arith } in
+    let differ : p ≢ q = λ e. let n : _≡_ {A = ℕ} 3 2 = ap (λ (x : Edge). x .column) e in omega arith in
+    elim (f .apart p q (record { stick = refl; kept = refl }) (record { stick = refl; kept = refl }) differ z
+    (mean 4 3 (vertex arch t p) (vertex arch t (nextKept arch t p)) z refl refl (omega arith) refl refl)
+    (mean 4 3 (vertex arch t q) (vertex arch t (nextKept arch t q)) z refl refl (omega arith) refl refl)) [
+      | inl j ↦ (let n : _≡_ {A = ℕ} 0 2 = ap (λ (x : Edge). x .column) (j .joined) in omega arith)
+      | inr j ↦ (let n : _≡_ {A = ℕ} 2 3 = ap (λ (x : Edge). x .column) (j .joined) in omega arith)
+    ]
