@@ -1,4 +1,4 @@
--- Questions 1 to 7, which every call on a held layer is asked first, and what a yes to all of them says.
+-- Questions 1 to 7, which every call on a held layer is asked first, what a yes to all of them says, and 15 after them.
 use mathlib.Core.Path.{_≡_}
 use mathlib.Core.List.{List, [], _∷_, _++_}
 use Prim.Native.Nat.{ℕ}
@@ -9,10 +9,15 @@ use Rattle.grid.specs.Questions.{Sound}
 use Rattle.grid.specs.declared.question.Answer.{Answer}
 use Rattle.grid.specs.declared.question.Answer.the-variants.{Yes}
 use Rattle.table.specs.Entries.{lengthQuestions, entriesAnswer}
+use Rattle.table.specs.Kept.{allKeptAnswer}
 use Rattle.held.specs.Held.{heldAnswer}
 
 abbrev pub heldQuestions : Layer → List ℕ → List Answer
 heldQuestions L t = lengthQuestions L (length t) ++ (entriesAnswer L t ∷ heldAnswer L t ∷ [])
+
+-- 1 to 7, and "15. For Smooth and Simplify: is every vertex kept?"
+abbrev pub keptQuestions : Layer → List ℕ → List Answer
+keptQuestions L t = heldQuestions L t ++ (allKeptAnswer (L .size) t ∷ [])
 
 pub record Accepted (L : Layer) (t : List ℕ) : Type 0 where
   pub sound : Sound L

@@ -1,4 +1,4 @@
-// Question 7, and questions 1 to 7 in order.
+// Question 7, questions 1 to 7 in order, and 15 after them.
 use super::walk::held_contour;
 use contour::first_sticks;
 use contour::next_first;
@@ -14,7 +14,7 @@ ghost use Rattle.grid.specs.Questions.{firstNo, Sound};
 ghost use Rattle.grid.specs.declared.question.Answer.the-variants.{Yes};
 ghost use Rattle.contour.specs.Sets.{Empty, FirstSet};
 ghost use Rattle.held.specs.Held.{heldAnswer};
-ghost use Rattle.held.specs.Questions.{heldQuestions};
+ghost use Rattle.held.specs.Questions.{heldQuestions, keptQuestions};
 
 // Question 7, from the set of first sticks.
 fn ask_contours(size: Size, bitmap: &[u8], table: &[u16], set: &[u64; 16368]) -> Answer
@@ -61,6 +61,19 @@ pub fn ask_held_firsts(size: Size, bitmap: &[u8], table: &[u16], set: &mut [u64;
         return entries;
     };
     ask_held(size, bitmap, table, set)
+}
+
+// Questions 1 to 7 and 15, likewise.
+pub fn ask_kept_firsts(size: Size, bitmap: &[u8], table: &[u16], set: &mut [u64; 16368]) -> Answer
+    requires { ⌜ Empty (now set) ⌝ }
+    ensures { λ r. ⌜ r ≡ firstNo (keptQuestions (layerOf size (now (bitmap .entry))) (now (table .entry))) ⌝ }
+    ensures { λ r. ⌜ (r ≡ Yes → FirstSet (layerOf size (now (bitmap .entry))) (now (set .exit))) ⌝ }
+{
+    let held = ask_held_firsts(size, bitmap, table, set);
+    let Answer::Yes = held else {
+        return held;
+    };
+    table::ask_all_kept(size, table)
 }
 
 // Questions 1 to 7, for a call that needs no set.
