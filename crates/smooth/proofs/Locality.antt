@@ -26,7 +26,7 @@ use Rattle.contour.proofs.Theorems.{on-no-other}
 use Rattle.table.specs.Vertices.{offsetIn, offsetAt}
 use Rattle.table.specs.Entries.{entryOf}
 use Rattle.smooth.specs.Smooth.{smoothedAt, Pass, visit, passContour}
-use Rattle.smooth.proofs.Tables.{entry}
+use Rattle.table.proofs.AllKept.{entry}
 use Rattle.smooth.proofs.Steps.{visit-table, visit-sum, visit-elsewhere, visit-length}
 
 module _ (L : Layer) (sound : Sound L) where

@@ -1,7 +1,7 @@
 -- What v is: the one point that the segment between the neighbours and the closed stick share, on the 1/256 grid or off it, if the neighbours
 -- lie on different sides of the stick's line.
 use mathlib.Core.Path.{_≡_, refl, _∙_, ap, ap₂}
-use mathlib.Core.Logic.{_⊎_, inl, inr}
+use mathlib.Core.Logic.{inl, inr}
 use mathlib.Core.Bool.{Bool, true, false}
 use Prim.Native.Nat.{ℕ, suc, _+_, _*_, _-_, _≤_, _<_}
 use native.Mathlib.Nat.{mul-le-mul-left, mul-comm}
@@ -15,11 +15,7 @@ use Rattle.chord.proofs.Homogeneous.{alongOf, along-is, coordinates, Plain, poi
 use Rattle.chord.proofs.Weights.{on→weights, weighted→on}
 use Rattle.chord.proofs.EdgePoints.{edge, on→closed, closed→on}
 use Rattle.chord.proofs.Meetings.{crossing, sides→parted, crossing-across, crossing-along, crossing-only, total-some}
-use Rattle.smooth.specs.Offset.{spread, shift, upon}
-
--- the neighbours lie strictly on different sides of the stick's line
-abbrev pub Apart : Position → Position → Edge → Type 0
-Apart p q e = ((across e p < line e) × (line e < across e q)) ⊎ ((across e q < line e) × (line e < across e p))
+use Rattle.smooth.specs.Offset.{spread, shift, upon, Apart}
 
 -- What spread and shift come to, over numbers: the neighbours' coordinates are u and w along, a and b across; the line lies at l, the stick
 -- begins at o, the old offset is k. With the neighbours β and α off the line, the size of the spread is α + β, and the shift over it is the

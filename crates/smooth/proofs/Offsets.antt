@@ -10,9 +10,10 @@ use Rattle.grid.specs.declared.edge.Edge.{Edge}
 use Rattle.chord.specs.Points.{Position}
 use Rattle.chord.specs.Crossing.{along, base, meeting, total}
 use Rattle.chord.proofs.Meetings.{sides→parted, total-some}
-use Rattle.smooth.specs.Offset.{rounded, spread, shift, upon, newOffset}
+use Rattle.table.proofs.AllKept.{Inside}
+use Rattle.smooth.specs.Offset.{rounded, spread, shift, upon, newOffset, Apart, Around}
 use Rattle.smooth.proofs.Rounding.{rounded-inside}
-use Rattle.smooth.proofs.Meeting.{Apart, spread-is, shift-is, meeting-inside}
+use Rattle.smooth.proofs.Meeting.{spread-is, shift-is, meeting-inside}
 
 -- v - o is n / t and b + v is m / t, so v is (m - b·t) / t
 from-base : (b o t m : ℕ) (n : ℤ) → pos ((b + o) * t) +ℤ n ≡ pos m → b * t ≤ m → pos (o * t) +ℤ n ≡ pos (m - b * t)
@@ -21,11 +22,6 @@ from-base b o t m n e l = viaℕ (search (ints, at n)) (omega (arith, toℕ e (s
 -- an integer of 1 to 255 as a natural
 as-natural : (z : ℤ) → pos 1 ≤ℤ z → z ≤ℤ pos 255 → (pos (up z) ≡ z) × (1 ≤ up z) × (up z ≤ 255)
 as-natural z l h = (omega (arithℤ, natAbs-parts z), omega (arithℤ, natAbs-parts z), omega (arithℤ, natAbs-parts z))
-
--- an offset of a vertex: "A vertex lies at offset 1 to 255"
-pub record Inside (n : ℕ) : Type 0 where
-  pub low : 1 ≤ n
-  pub high : n ≤ 255
 
 module _ (p q : Position) (e : Edge) (old : ℕ) (apart : Apart p q e) where
   pub spread-some : 0 < natAbs (spread p q e)
@@ -51,3 +47,17 @@ module _ (p q : Position) (e : Edge) (old : ℕ) (apart : Apart p q e) where
 
     pub new-inside : Inside (newOffset p q e old)
     new-inside = record { low = new-both .1; high = new-both .2 }
+
+-- the same of what the code asks
+module _ (p q : Position) (e : Edge) (old : ℕ) (around : Around p q e old) where
+  abbrev inside : Inside old
+  inside = record { low = around .low; high = around .high }
+
+  pub around-some : 0 < natAbs (spread p q e)
+  around-some = spread-some p q e old (around .apart)
+
+  pub around-is : pos (newOffset p q e old) ≡ rounded old (upon (shift p q e old) (spread p q e)) (natAbs (spread p q e))
+  around-is = new-is p q e old (around .apart) (around .p-from) (around .p-to) (around .q-from) (around .q-to) inside
+
+  pub around-inside : Inside (newOffset p q e old)
+  around-inside = new-inside p q e old (around .apart) (around .p-from) (around .p-to) (around .q-from) (around .q-to) inside

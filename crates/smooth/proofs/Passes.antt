@@ -19,8 +19,9 @@ use Rattle.contour.proofs.Outer.{foldl-flatten}
 use Rattle.contour.proofs.Contours.{walked-one}
 use Rattle.contour.proofs.Theorems.{total-length}
 use Rattle.table.specs.Entries.{entriesAnswer}
-use Rattle.smooth.specs.Smooth.{allKeptAnswer, Pass, visit, passContour, pass, vertexCount, isSettled, Smoothed, unsmoothed, further, until, smooth}
-use Rattle.smooth.proofs.Tables.{AllKept, passes-entries, passes-all-kept}
+use Rattle.table.specs.Kept.{allKeptAnswer}
+use Rattle.smooth.specs.Smooth.{Pass, visit, passContour, pass, vertexCount, isSettled, Smoothed, unsmoothed, further, until, smooth}
+use Rattle.table.proofs.AllKept.{AllKept, passes-entries, passes-all-kept}
 use Rattle.smooth.proofs.Steps.{visit-kept, visit-total}
 
 -- what a pass is made of: what a loop over contours cites
@@ -149,5 +150,5 @@ module _ (L : Layer) (sound : Sound L) where
   pub smooth-entries : (limit : ℕ) (t : List ℕ) → AllKept L t → entriesAnswer L (smooth L limit t .table) ≡ Yes
   smooth-entries limit t kept = passes-entries L (smooth L limit t .table) (smooth-kept limit t kept) (sound .whole .sized)
 
-  pub smooth-all-kept : (limit : ℕ) (t : List ℕ) → AllKept L t → allKeptAnswer L (smooth L limit t .table) ≡ Yes
+  pub smooth-all-kept : (limit : ℕ) (t : List ℕ) → AllKept L t → allKeptAnswer (L .size) (smooth L limit t .table) ≡ Yes
   smooth-all-kept limit t kept = passes-all-kept L (smooth L limit t .table) (smooth-kept limit t kept) (sound .whole .sized)

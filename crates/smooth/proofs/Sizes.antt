@@ -5,10 +5,10 @@ use mathlib.Core.List.{List}
 use Prim.Native.Nat.{ℕ, _+_, _*_, _^_, _≤_}
 use native.Mathlib.Nat.{mul-le-mul-right}
 use native.Mathlib.Omega.{arith}
-use lib.IntN.{ℤ, pos, negsuc, natAbs, _+ℤ_, _-ℤ_, _*ℤ_}
+use lib.IntN.{ℤ, pos, natAbs, _+ℤ_, _-ℤ_, _*ℤ_}
 use lib.Signed.{_≤ℤ_}
 use Rattle.arith.specs.Integers.{ints, at, viaℕ, toℕ, arithℤ, natAbs-parts, ≤ℤ-trans}
-use Rattle.arith.specs.Bounds.{natAbs-neg, sized, within}
+use Rattle.arith.specs.Bounds.{sized, within}
 use Rattle.arith.specs.Ranges.{count-le}
 use Rattle.grid.specs.Layer.{Layer}
 use Rattle.grid.specs.Edges.{isStick, edgeCount, stickAt}
@@ -21,11 +21,13 @@ use Rattle.chord.specs.Points.{Position, position}
 use Rattle.chord.specs.Crossing.{along, across, base, line, off, meeting, total}
 use Rattle.chord.proofs.EdgePoints.{along-position, across-position}
 use Rattle.table.specs.Vertices.{offsetAt}
+use Rattle.held.specs.Held.{vertex}
 use Rattle.smooth.specs.Offset.{spread, shift, upon}
-use Rattle.smooth.specs.Smooth.{vertexAt, pass}
+use Rattle.smooth.specs.Smooth.{pass}
+use Rattle.smooth.proofs.Division.{upon-size}
 use Rattle.smooth.proofs.Rounding.{drawn}
 use Rattle.smooth.proofs.Meeting.{spread-is, shift-is}
-use Rattle.smooth.proofs.Tables.{AllKept, offset-inside}
+use Rattle.table.proofs.AllKept.{AllKept, offset-inside}
 use Rattle.smooth.proofs.Steps.{previous-vertex, next-vertex, neighbours-apart, v-inside}
 use Rattle.smooth.proofs.Passes.{pass-total}
 
@@ -80,10 +82,6 @@ shift-small p q e old sp sq se so =
 
 -- ---- for the neighbours of a stick in a table whose vertices are all kept: the fraction is small, and what is rounded is not negative
 
-upon-size : (n d : ℤ) → natAbs (upon n d) ≡ natAbs n
-upon-size n (pos d) = refl
-upon-size n (negsuc d) = natAbs-neg n
-
 -- v = m / t of b to b + 256, from the old offset o on
 fraction-size : (b o t m : ℕ) (n : ℤ) → pos ((b + o) * t) +ℤ n ≡ pos m → b * t ≤ m → m ≤ (b + 256) * t → o ≤ 255 → natAbs n ≤ 256 * t
 fraction-size b o t m n e l h k = omega (arith, toℕ e (search (ints, at n)), natAbs-parts n, mul-le-mul-right t k)
@@ -96,10 +94,10 @@ drawn-most b o t m n e h k = viaℕ (search (ints, at n)) (omega (arith, toℕ e
 
 module _ (L : Layer) (sound : Sound L) (t : List ℕ) (kept : AllKept L t) (e : Edge) (stick : isStick L e ≡ true) where
   abbrev p : Position
-  p = vertexAt L t (prev L e)
+  p = vertex L t (prev L e)
 
   abbrev q : Position
-  q = vertexAt L t (next L e)
+  q = vertex L t (next L e)
 
   abbrev old : ℕ
   old = offsetAt L t e

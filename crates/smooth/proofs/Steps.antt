@@ -21,13 +21,14 @@ use Rattle.contour.proofs.Sticks.{stick-in}
 use Rattle.chord.specs.Points.{Position, Point, Meets, slide}
 use Rattle.chord.specs.Crossing.{base, distance, meeting, total}
 use Rattle.table.specs.Vertices.{offsetAt}
-use Rattle.smooth.specs.Offset.{rounded}
-use Rattle.smooth.specs.Smooth.{vertexAt, smoothedAt, Pass, visit}
+use Rattle.held.specs.Held.{vertex}
+use Rattle.smooth.specs.Offset.{rounded, Apart}
+use Rattle.smooth.specs.Smooth.{smoothedAt, Pass, visit}
 use Rattle.smooth.proofs.Rounding.{rounded-scaled}
-use Rattle.smooth.proofs.Meeting.{Apart, meeting-inside, meets, meets-at}
+use Rattle.smooth.proofs.Meeting.{meeting-inside, meets, meets-at}
 use Rattle.smooth.proofs.Neighbours.{Beside, next-beside, prev-beside, beside-apart}
-use Rattle.smooth.proofs.Offsets.{Inside, spread-some, new-is, new-inside}
-use Rattle.smooth.proofs.Tables.{AllKept, entry, offset-inside}
+use Rattle.smooth.proofs.Offsets.{spread-some, new-is, new-inside}
+use Rattle.table.proofs.AllKept.{Inside, AllKept, entry, offset-inside}
 
 -- what a step does
 module _ (L : Layer) (s : Pass) (e : Edge) where
@@ -51,39 +52,39 @@ module _ (L : Layer) (s : Pass) (e : Edge) where
 module _ (L : Layer) (sound : Sound L) where
   -- the neighbours of a stick in a table whose vertices are all kept
   module _ (t : List ℕ) (kept : AllKept L t) (e : Edge) (stick : isStick L e ≡ true) where
-    pub previous-vertex : Beside (not (upward L e)) e (vertexAt L t (prev L e))
+    pub previous-vertex : Beside (not (upward L e)) e (vertex L t (prev L e))
     previous-vertex =
         let i = offset-inside L t kept (prev L e) (prev-stick L sound e stick) in
         prev-beside L sound e stick (offsetAt L t (prev L e)) (i .low) (i .high)
 
-    pub next-vertex : Beside (upward L e) e (vertexAt L t (next L e))
+    pub next-vertex : Beside (upward L e) e (vertex L t (next L e))
     next-vertex =
         let i = offset-inside L t kept (next L e) (next-stick L sound e stick) in
         next-beside L sound e stick (offsetAt L t (next L e)) (i .low) (i .high)
 
     -- they lie strictly on different sides of the stick's line, within its length along it
-    pub neighbours-apart : Apart (vertexAt L t (prev L e)) (vertexAt L t (next L e)) e
-    neighbours-apart = beside-apart (upward L e) e (vertexAt L t (prev L e)) (vertexAt L t (next L e)) previous-vertex next-vertex
+    pub neighbours-apart : Apart (vertex L t (prev L e)) (vertex L t (next L e)) e
+    neighbours-apart = beside-apart (upward L e) e (vertex L t (prev L e)) (vertex L t (next L e)) previous-vertex next-vertex
 
     -- so v, which is meeting / total - base, lies in 0 to 256
-    pub v-inside : let p : Position = vertexAt L t (prev L e) in
-        let q : Position = vertexAt L t (next L e) in
+    pub v-inside : let p : Position = vertex L t (prev L e) in
+        let q : Position = vertex L t (next L e) in
         (base e * total p q e ≤ meeting p q e) × (meeting p q e ≤ (base e + 256) * total p q e)
     v-inside =
-        meeting-inside (vertexAt L t (prev L e)) (vertexAt L t (next L e)) e (offsetAt L t e) (previous-vertex .from) (previous-vertex .to) (next-vertex .from) (next-vertex .to)
+        meeting-inside (vertex L t (prev L e)) (vertex L t (next L e)) e (offsetAt L t e) (previous-vertex .from) (previous-vertex .to) (next-vertex .from) (next-vertex .to)
 
     -- "The segment between the neighbours meets the closed stick at v": there is a point that both have,
-    pub neighbours-meet : (z : Point) × Meets z (vertexAt L t (prev L e)) (vertexAt L t (next L e)) e
+    pub neighbours-meet : (z : Point) × Meets z (vertex L t (prev L e)) (vertex L t (next L e)) e
     neighbours-meet =
-        meets (vertexAt L t (prev L e)) (vertexAt L t (next L e)) e (offsetAt L t e) neighbours-apart (v-inside .0) (v-inside .1)
+        meets (vertex L t (prev L e)) (vertex L t (next L e)) e (offsetAt L t e) neighbours-apart (v-inside .0) (v-inside .1)
 
     -- and with each such point, its difference from the old offset along the stick being v - old, "the new offset is old + 2/5 of (v - old)",
     -- rounded
-    pub smoothed-is : (z : Point) → Meets z (vertexAt L t (prev L e)) (vertexAt L t (next L e)) e
+    pub smoothed-is : (z : Point) → Meets z (vertex L t (prev L e)) (vertex L t (next L e)) e
         → pos (smoothedAt L t e) ≡ rounded (offsetAt L t e) (slide z e (offsetAt L t e)) (z .d)
     smoothed-is z m =
-        let p = vertexAt L t (prev L e) in
-        let q = vertexAt L t (next L e) in
+        let p = vertex L t (prev L e) in
+        let q = vertex L t (next L e) in
         let o = offsetAt L t e in
         new-is p q e o neighbours-apart (previous-vertex .from) (previous-vertex .to) (next-vertex .from) (next-vertex .to) (offset-inside L t kept e stick)
         ∙ rounded-scaled o _ _ _ _ (spread-some p q e o neighbours-apart) (z .above) (sym (meets-at p q e o neighbours-apart z m))
@@ -91,7 +92,7 @@ module _ (L : Layer) (sound : Sound L) where
     -- so the new offset is 1 to 255
     pub smoothed-inside : Inside (smoothedAt L t e)
     smoothed-inside =
-        new-inside (vertexAt L t (prev L e)) (vertexAt L t (next L e)) e (offsetAt L t e) neighbours-apart
+        new-inside (vertex L t (prev L e)) (vertex L t (next L e)) e (offsetAt L t e) neighbours-apart
         (previous-vertex .from) (previous-vertex .to) (next-vertex .from) (next-vertex .to) (offset-inside L t kept e stick)
 
   -- ---- a step

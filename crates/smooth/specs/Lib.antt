@@ -1,3 +1,4 @@
--- What the crate's contracts cite: the new offset of one vertex, passes, smoothing with a limit, and question 15.
+-- What the crate's contracts cite: the new offset of one vertex, passes, smoothing with a limit, and the call.
 pub mod Offset
 pub mod Smooth
+pub mod Call

@@ -1,44 +1,37 @@
 -- The rule of Smooth: the step at one vertex, a pass over one contour and over the layer, and passes until smoothing is settled or the limit
 -- is reached. Every definition computes: a test that runs `smooth` says `unfolding smooth`, which opens all of this crate's that it is made of.
+use mathlib.Core.Path.{_≡_}
 use mathlib.Core.Bool.{Bool, true, false}
 use mathlib.Core.List.{List, foldl}
 use Prim.Native.Nat.{ℕ, zero, suc, _+_, _*_}
 use lib.Dec.{eqb, ltb}
-use lib.ListN.{getD, set}
+use lib.ListN.{length, set}
 use Rattle.grid.specs.Layer.{Layer}
 use Rattle.grid.specs.Edges.{number, edgeCount}
 use Rattle.grid.specs.Walk.{next, prev}
 use Rattle.grid.specs.Counts.{stickCount}
-use Rattle.grid.specs.Questions.{askEach}
+use Rattle.grid.specs.Questions.{Sound}
 use Rattle.grid.specs.declared.edge.Edge.{Edge}
-use Rattle.grid.specs.declared.question.Refusal.the-variants as Refusal
-use Rattle.grid.specs.declared.question.Answer.{Answer}
+use Rattle.grid.specs.declared.question.Answer.the-variants.{Yes}
 use Rattle.contour.specs.Contours.{contoursOf}
-use Rattle.chord.specs.Points.{Position, position}
 use Rattle.chord.specs.Crossing.{distance}
-use Rattle.table.specs.Entries.{entryOf}
-use Rattle.table.specs.Vertices.{isRemoved, offsetAt}
+use Rattle.table.specs.Entries.{entriesAnswer}
+use Rattle.table.specs.Kept.{allKeptAnswer}
+use Rattle.table.specs.Vertices.{offsetAt}
+use Rattle.held.specs.Held.{vertex}
 use Rattle.smooth.specs.Offset.{newOffset}
-
--- "15. For Smooth and Simplify: is every vertex kept? (lowest removed entry)"
-abbrev pub isRemovedAt : List ℕ → ℕ → Bool
-isRemovedAt t k = isRemoved (entryOf (getD t k 0))
-
-unfoldable pub allKeptAnswer : Layer → List ℕ → Answer
-allKeptAnswer L t = askEach Refusal.SomeRemoved (isRemovedAt t) (edgeCount (L .size))
-
--- "A vertex, kept or removed, lies on its stick at the offset its entry gives."
-abbrev pub vertexAt : Layer → List ℕ → Edge → Position
-vertexAt L t e = position e (offsetAt L t e)
 
 -- the new offset of the vertex of a stick in a table whose vertices are all kept, from "its neighbours as they then are"
 abbrev pub smoothedAt : Layer → List ℕ → Edge → ℕ
-smoothedAt L t e = newOffset (vertexAt L t (prev L e)) (vertexAt L t (next L e)) e (offsetAt L t e)
+smoothedAt L t e = newOffset (vertex L t (prev L e)) (vertex L t (next L e)) e (offsetAt L t e)
 
 -- what a pass has come to: the table, and "the sum of the absolute changes"
 pub record Pass : Type 0 where
   pub table : List ℕ
   pub total : ℕ
+
+abbrev pub passed : List ℕ → ℕ → Pass
+passed t n = record { table = t; total = n }
 
 -- the step at one vertex
 unfoldable pub visit : Layer → Pass → Edge → Pass
@@ -96,3 +89,10 @@ module _ (onePass : List ℕ → Pass) (vertices : ℕ) where
 unfoldable pub smooth : Layer → ℕ → List ℕ → Smoothed
 unfolding pass until
 smooth L limit t = until (pass L) (vertexCount L) limit (unsmoothed (vertexCount L) t)
+
+-- What the code asks of a layer and a table before it smooths: they passed questions 1 to 6, and 15
+pub record Ready (L : Layer) (t : List ℕ) : Type 0 where
+  pub sound : Sound L
+  pub whole : length t ≡ edgeCount (L .size)
+  pub entries : entriesAnswer L t ≡ Yes
+  pub all-kept : allKeptAnswer (L .size) t ≡ Yes

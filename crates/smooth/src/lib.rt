@@ -1,1 +1,7 @@
-// The call Smooth: its definitions are in specs/, their laws in proofs/.
+// The public call Smooth: passes over all contours, each vertex slid by two fifths of the way to the segment between its neighbours.
+mod offset;
+mod pass;
+mod smoothing;
+
+pub use smoothing::Smoothing;
+pub use smoothing::smooth;

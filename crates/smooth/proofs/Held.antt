@@ -1,0 +1,55 @@
+-- What a yes to Smooth's questions says, and that Smooth keeps a layer held: what it leaves passes questions 1 to 7 and 15 again, since nothing
+-- is removed; and whatever the answer is, an accepted table stays one.
+use mathlib.Core.Path.{_≡_, refl, sym, _∙_, ap, subst}
+use mathlib.Core.List.{List, [], _∷_}
+use Prim.Native.Nat.{ℕ}
+use Rattle.grid.specs.Layer.{Layer}
+use Rattle.grid.specs.Questions.{firstNo, ifAllYes}
+use Rattle.grid.specs.declared.question.Answer.{Answer}
+use Rattle.grid.specs.declared.question.Answer.the-variants.{Yes, No}
+use Rattle.grid.proofs.Answers.{firstNo-yes, append-all}
+use Rattle.table.specs.Kept.{allKeptAnswer}
+use Rattle.table.proofs.AllKept.{passes-all-kept}
+use Rattle.held.specs.Questions.{heldQuestions, keptQuestions, Accepted}
+use Rattle.held.proofs.Holding.{all-kept-accepted}
+use Rattle.held.proofs.Asking.{accepted-of}
+use Rattle.smooth.specs.Smooth.{smooth, Ready}
+use Rattle.smooth.specs.Call.{Outcome, refusedWith, doneWith, smoothOf}
+use Rattle.smooth.proofs.Walking.{ready-kept}
+use Rattle.smooth.proofs.Passes.{smooth-kept}
+
+-- a yes to all questions
+pub ready-of : (L : Layer) (t : List ℕ) → firstNo (keptQuestions L t) ≡ Yes → Ready L t
+ready-of L t e =
+    let both = append-all (heldQuestions L t) (allKeptAnswer (L .size) t ∷ []) e in
+    let held = accepted-of L t (both .0) in
+    record {
+      sound = held .sound;
+      whole = held .exact;
+      entries = held .entries;
+      all-kept = firstNo-yes (allKeptAnswer (L .size) t) [] (both .1) .0;
+    }
+
+-- what comes of the call, by the answer to its questions
+pub outcome-is : (L : Layer) (limit : ℕ) (t : List ℕ) (answer : Answer) → firstNo (keptQuestions L t) ≡ answer
+    → smoothOf L limit t ≡ ifAllYes answer (λ q place. refusedWith q place t) (doneWith (smooth L limit t))
+unfolding smoothOf
+outcome-is L limit t answer e =
+    ap (λ (x : Answer). ifAllYes {A = Outcome} x (λ q place. refusedWith q place t) (doneWith (smooth L limit t))) e
+
+-- a layer and a table that pass questions 1 to 7 and 15 pass them again after Smooth
+pub smooth-held : (L : Layer) (limit : ℕ) (t : List ℕ) → firstNo (keptQuestions L t) ≡ Yes
+    → Accepted L (smoothOf L limit t .table) × (allKeptAnswer (L .size) (smoothOf L limit t .table) ≡ Yes)
+smooth-held L limit t e =
+    let ready = ready-of L t e in
+    let kept = smooth-kept L (ready .sound) limit t (ready-kept L t ready) in
+    rw (outcome-is L limit t Yes e)
+    (all-kept-accepted L (smooth L limit t .table) (ready .sound) kept, passes-all-kept L (smooth L limit t .table) kept (ready .sound .whole .sized))
+
+-- and after a refusal the table is as found: whatever the answer is, an accepted table stays one
+pub smooth-keeps : (L : Layer) (limit : ℕ) (t : List ℕ) → Accepted L t → Accepted L (smoothOf L limit t .table)
+smooth-keeps L limit t accepted = by (firstNo (keptQuestions L t)) refl
+  where
+    by : (answer : Answer) → firstNo (keptQuestions L t) ≡ answer → Accepted L (smoothOf L limit t .table)
+    by Yes e = smooth-held L limit t e .0
+    by (No q place) e = rw (outcome-is L limit t (No q place) e) accepted

@@ -1,0 +1,74 @@
+-- What a loop over passes cites: the invariant `Smoothing`, the sizes of its numbers, the next turn's, and both ends.
+use mathlib.Core.Path.{_≡_, sym, _∙_, ap, subst}
+use mathlib.Core.Bool.{Bool, true, false}
+use mathlib.Core.List.{List}
+use Prim.Native.Nat.{ℕ, suc, _+_, _-_, _≤_, _<_}
+use native.Mathlib.Omega.{arith}
+use lib.Dec.{eqb}
+use Rattle.arith.specs.Ranges.{count-le}
+use Rattle.grid.specs.Layer.{Layer}
+use Rattle.grid.specs.Edges.{edgeCount, stickAt}
+use Rattle.grid.specs.Questions.{Sound}
+use Rattle.grid.proofs.Numbers.{edges-small}
+use Rattle.table.proofs.AllKept.{AllKept}
+use Rattle.smooth.specs.Smooth.{Pass, passed, pass, vertexCount, isSettled, Smoothed, further, until, smooth}
+use Rattle.smooth.proofs.Passes.{smooth-is, further-is, until-none, until-settled, until-more, pass-kept}
+use Rattle.smooth.proofs.Sizes.{total-most}
+
+abbrev pub standing : List ℕ → ℕ → ℕ → Bool → Smoothed
+standing t passes total settled = record { table = t; passes = passes; total = total; settled = settled }
+
+pub vertices-most : (L : Layer) → Sound L → vertexCount L ≤ 2095104
+vertices-most L sound = omega (arith, count-le (stickAt L) (edgeCount (L .size)), edges-small (L .size) (sound .whole .sized))
+
+-- after these passes, the passes that the limit leaves come to the whole
+pub record Smoothing (L : Layer) (limit : ℕ) (t₀ t : List ℕ) (passes total : ℕ) (settled : Bool) : Type 0 where
+  pub kept : AllKept L t
+  pub within : passes ≤ limit
+  pub left : until (pass L) (vertexCount L) (limit - passes) (standing t passes total settled) ≡ smooth L limit t₀
+
+pub smoothing-start : (L : Layer) (limit : ℕ) (t : List ℕ) → AllKept L t → Smoothing L limit t t 0 0 (eqb (vertexCount L) 0)
+smoothing-start L limit t kept =
+    let all : limit - 0 ≡ limit = omega arith in
+    record {
+      kept = kept;
+      within = omega arith;
+      left = rw all (sym (smooth-is L limit t));
+    }
+
+module _ (L : Layer) (sound : Sound L) (limit : ℕ) (t₀ t : List ℕ) (passes total : ℕ) (settled : Bool) (g : Smoothing L limit t₀ t passes total settled) where
+  abbrev here : Smoothed
+  here = standing t passes total settled
+
+  -- the limit is reached
+  pub smoothing-limit : limit ≤ passes → standing t passes total settled ≡ smooth L limit t₀
+  smoothing-limit l =
+      let none : limit - passes ≡ 0 = omega arith in
+      sym (until-none (pass L) (vertexCount L) here) ∙ sym (ap (λ (n : ℕ). until (pass L) (vertexCount L) n here) none) ∙ g .left
+
+  -- smoothing is settled
+  pub smoothing-settled : settled ≡ true → standing t passes total settled ≡ smooth L limit t₀
+  smoothing-settled y = sym (until-settled (pass L) (vertexCount L) (limit - passes) here y) ∙ g .left
+
+  -- one pass more
+  module _ (t′ : List ℕ) (total′ : ℕ) (is : passed t′ total′ ≡ pass L t) where
+    pub smoothing-most : total′ ≤ 532156416
+    smoothing-most = omega (arith, ap (λ (p : Pass). p .total) is, total-most L sound t (g .kept))
+
+    pub smoothing-turn : passes < limit → settled ≡ false → (settled′ : Bool) → settled′ ≡ isSettled total′ (vertexCount L)
+        → Smoothing L limit t₀ t′ (passes + 1) total′ settled′
+    smoothing-turn l y settled′ e =
+        let one : limit - passes ≡ suc (limit - (passes + 1)) = omega arith in
+        let after : standing t′ (passes + 1) total′ settled′ ≡ further (pass L) (vertexCount L) here =
+        ap (standing t′ (passes + 1) total′) e
+        ∙ ap (λ (p : Pass). standing (p .table) (passes + 1) (p .total) (isSettled (p .total) (vertexCount L))) is
+        ∙ sym (further-is (pass L) (vertexCount L) here) in
+        record {
+          kept = subst (λ (p : Pass). AllKept L (p .table)) (sym is) (pass-kept L sound t (g .kept));
+          within = omega arith;
+          left =
+              ap (until (pass L) (vertexCount L) (limit - (passes + 1))) after
+              ∙ sym (until-more (pass L) (vertexCount L) (limit - (passes + 1)) here y)
+              ∙ sym (ap (λ (n : ℕ). until (pass L) (vertexCount L) n here) one)
+              ∙ g .left;
+        }

@@ -1,0 +1,40 @@
+-- `spread_of` meets its contract.
+use mathlib.Core.Path.{ap, ap₂, _∙_}
+use borrow.Author.Needs.{needs}
+use lib.IntN.{pos, _-ℤ_}
+use Rattle.arith.specs.Bounds.{sized, in-range, exact, within}
+use Rattle.smooth.proofs.offset.spread_of.Statement.{statement}
+use Rattle.smooth.proofs.offset.spread_of.Tie as tie
+
+across-of-requires : tie.Need-across-of-requires
+across-of-requires c κs = search needs
+
+signed-requires : tie.Need-signed-requires
+signed-requires c κs = search needs
+
+across-of-requires-2 : tie.Need-across-of-requires-2
+across-of-requires-2 c κs = search needs
+
+signed-requires-2 : tie.Need-signed-requires-2
+signed-requires-2 c κs = search needs
+
+sub-result : tie.Need-sub-result
+sub-result c = in-range (search sized depth 9) tt
+
+returns : tie.Need-returns
+returns c =
+    let a = c .before .before .before .before .args in
+    let q-is = c .before .before .signed .ensures .0 ∙ ap pos (c .before .before .before .across-of .ensures .0) in
+    let p-is = c .signed2 .ensures .0 ∙ ap pos (c .before .across-of2 .ensures .0) in
+    (exact (search sized depth 9) tt ∙ ap₂ _-ℤ_ q-is p-is, within (search sized depth 9) tt)
+
+pub spread-of-spec : {M : Type 1} → statement M
+spread-of-spec =
+    tie.close
+    (tie.spec
+    across-of-requires
+    signed-requires
+    across-of-requires-2
+    signed-requires-2
+    sub-result
+    returns)

@@ -1,0 +1,41 @@
+-- The call Smooth: what is asked, and what comes of it.
+use mathlib.Core.Bool.{Bool, false}
+use mathlib.Core.List.{List}
+use Prim.Native.Nat.{ℕ}
+use Rattle.grid.specs.Layer.{Layer}
+use Rattle.grid.specs.Questions.{firstNo, ifAllYes, numberOf}
+use Rattle.grid.specs.declared.question.Refusal.{Refusal}
+use Rattle.held.specs.Questions.{keptQuestions}
+use Rattle.smooth.specs.declared.smoothing.Smoothing.{Smoothing}
+use Rattle.smooth.specs.declared.smoothing.Smoothing.the-variants.{Done, Refused}
+use Rattle.smooth.specs.Smooth.{Smoothed, smooth}
+
+-- the number of a refusal and its place, both 0 where the call is done; "The answer is passes, last total (0 if none) and settled or limit";
+-- and the table at exit
+pub record Outcome : Type 0 where
+  pub refusal : ℕ
+  pub place : ℕ
+  pub passes : ℕ
+  pub total : ℕ
+  pub settled : Bool
+  pub table : List ℕ
+
+-- "All other figures of a refused call are 0. A refusal leaves all buffers as found"
+abbrev pub refusedWith : Refusal → ℕ → List ℕ → Outcome
+refusedWith q place t = record { refusal = numberOf q; place = place; passes = 0; total = 0; settled = false; table = t }
+
+abbrev pub doneWith : Smoothed → Outcome
+doneWith s =
+    record { refusal = 0; place = 0; passes = s .passes; total = s .total; settled = s .settled; table = s .table }
+
+-- Smooth of a layer, with a pass limit, on the table t that it is lent: questions 1 to 7 and 15
+unfoldable pub smoothOf : Layer → ℕ → List ℕ → Outcome
+unfolding smooth
+smoothOf L limit t =
+    ifAllYes (firstNo (keptQuestions L t)) (λ q place. refusedWith q place t) (doneWith (smooth L limit t))
+
+-- what an answer and a table at exit say
+abbrev pub outcome : Smoothing → List ℕ → Outcome
+outcome (Done passes total settled) t =
+    record { refusal = 0; place = 0; passes = passes; total = total; settled = settled; table = t }
+outcome (Refused q place) t = refusedWith q place t

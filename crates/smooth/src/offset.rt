@@ -1,0 +1,113 @@
+// The new offset of one vertex, from signed differences of coordinates: products of them, and one division, rounded to the nearest whole
+// number with its exact meaning on both sides of zero.
+use chord::Position;
+use chord::across_of;
+use chord::along_of;
+use chord::base_of;
+use chord::line_of;
+use grid::Edge;
+ghost use mathlib.Core.Path.{_≡_};
+ghost use Prim.Native.Nat.{_≤_, _<_};
+ghost use lib.IntN.{pos, natAbs};
+ghost use lib.Signed.{_<ℤ_};
+ghost use Rattle.arith.specs.Nearest.{floorDiv, nearest};
+ghost use Rattle.chord.specs.Runs.{Near, NearEdge};
+ghost use Rattle.smooth.specs.Offset.{rounded, spread, shift, upon, newOffset, Around};
+
+// t / m for an m above 0, rounded down.
+fn floor_div(t: i64, m: i64) -> i64
+    requires { ⌜ natAbs t ≤ 17592186044416 ⌝ }
+    requires { ⌜ natAbs m ≤ 17592186044416 ⌝ }
+    requires { ⌜ pos 0 <ℤ m ⌝ }
+    ensures { λ r. ⌜ r ≡ floorDiv t (natAbs m) ⌝ }
+    ensures { λ r. ⌜ natAbs r ≤ 17592186044416 ⌝ }
+{
+    if t >= 0 { t / m } else { 0 - (m - 1 - t) / m }
+}
+
+// n / d for a d above 0, rounded to the nearest whole number, a half upward.
+fn nearest_div(n: i64, d: i64) -> i64
+    requires { ⌜ natAbs n ≤ 4398046511104 ⌝ }
+    requires { ⌜ natAbs d ≤ 4398046511104 ⌝ }
+    requires { ⌜ pos 0 <ℤ d ⌝ }
+    ensures { λ r. ⌜ r ≡ nearest n (natAbs d) ⌝ }
+    ensures { λ r. ⌜ natAbs r ≤ 17592186044416 ⌝ }
+{
+    floor_div(2 * n + d, 2 * d)
+}
+
+// A coordinate as a signed number.
+fn signed(n: usize) -> i64
+    requires { ⌜ n ≤ 262144 ⌝ }
+    ensures { λ r. ⌜ r ≡ pos n ⌝ }
+    ensures { λ r. ⌜ natAbs r ≤ 262144 ⌝ }
+{
+    n as i64
+}
+
+// How far q is from p across the line of e, with its sign.
+fn spread_of(p: Position, q: Position, e: Edge) -> i64
+    requires { ⌜ Near p ⌝ }
+    requires { ⌜ Near q ⌝ }
+    ensures { λ r. ⌜ r ≡ spread p q e ⌝ }
+    ensures { λ r. ⌜ natAbs r ≤ 524288 ⌝ }
+{
+    signed(across_of(e, q)) - signed(across_of(e, p))
+}
+
+// How far the segment from p to q meets the line of e from the old offset, multiplied by the spread.
+fn shift_of(p: Position, q: Position, e: Edge, old: u8) -> i64
+    requires { ⌜ Near p ⌝ }
+    requires { ⌜ Near q ⌝ }
+    requires { ⌜ NearEdge e ⌝ }
+    ensures { λ r. ⌜ r ≡ shift p q e old ⌝ }
+    ensures { λ r. ⌜ natAbs r ≤ 1099511627776 ⌝ }
+{
+    let from = signed(along_of(e, p));
+    let ahead = from - signed(base_of(e)) - old as i64;
+    let turn = signed(along_of(e, q)) - from;
+    let before = signed(line_of(e)) - signed(across_of(e, p));
+    ahead * spread_of(p, q, e) + turn * before
+}
+
+// |d|, and n with the sign of d: the fraction n / d with a denominator that is not below 0.
+fn size_of(d: i64) -> i64
+    requires { ⌜ natAbs d ≤ 524288 ⌝ }
+    ensures { λ r. ⌜ r ≡ pos (natAbs d) ⌝ }
+    ensures { λ r. ⌜ natAbs r ≤ 524288 ⌝ }
+{
+    if d < 0 { 0 - d } else { d }
+}
+
+fn signed_by(n: i64, d: i64) -> i64
+    requires { ⌜ natAbs n ≤ 1099511627776 ⌝ }
+    requires { ⌜ natAbs d ≤ 524288 ⌝ }
+    ensures { λ r. ⌜ r ≡ upon n d ⌝ }
+    ensures { λ r. ⌜ natAbs r ≤ 1099511627776 ⌝ }
+{
+    if d < 0 { 0 - n } else { n }
+}
+
+// old + 2/5 of n / d, rounded.
+fn rounded_of(old: u8, n: i64, d: i64) -> i64
+    requires { ⌜ natAbs n ≤ 1099511627776 ⌝ }
+    requires { ⌜ natAbs d ≤ 524288 ⌝ }
+    requires { ⌜ pos 0 <ℤ d ⌝ }
+    ensures { λ r. ⌜ r ≡ rounded old n (natAbs d) ⌝ }
+    ensures { λ r. ⌜ natAbs r ≤ 17592186044416 ⌝ }
+{
+    nearest_div(5 * d * old as i64 + 2 * n, 5 * d)
+}
+
+// The new offset of the vertex at `old` of the stick e, whose neighbours are at p and q.
+pub fn new_offset(p: Position, q: Position, e: Edge, old: u8) -> u8
+    requires { ⌜ Near p ⌝ }
+    requires { ⌜ Near q ⌝ }
+    requires { ⌜ NearEdge e ⌝ }
+    requires { ⌜ Around p q e old ⌝ }
+    ensures { λ r. ⌜ r ≡ newOffset p q e old ⌝ }
+{
+    let d = spread_of(p, q, e);
+    let n = shift_of(p, q, e, old);
+    rounded_of(old, signed_by(n, d), size_of(d)) as u8
+}
