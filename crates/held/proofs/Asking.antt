@@ -28,11 +28,12 @@ use Rattle.chord.specs.Points.{Position}
 use Rattle.chord.specs.Crossing.{crosses}
 use Rattle.chord.specs.Runs.{crossesRun, NearEdge}
 use Rattle.table.specs.Entries.{lengthQuestions, entriesAnswer}
+use Rattle.table.specs.Kept.{allKeptAnswer}
 use Rattle.table.specs.Vertices.{keptAt, removedAt, removedFrom, gapAfter}
 use Rattle.table.proofs.Gaps.{gap-over, gap-here}
 use Rattle.table.proofs.Lengths.{lengths-of}
 use Rattle.held.specs.Held.{each, among, edgeCrosses, heldContour, heldAnswer, firstUnheld}
-use Rattle.held.specs.Questions.{heldQuestions, Accepted}
+use Rattle.held.specs.Questions.{heldQuestions, keptQuestions, Accepted}
 
 -- an edge of the grid is one of the largest layer
 pub in-grid-near : (size : Size) → Sized size → (e : Edge) → inGrid size e ≡ true → NearEdge e
@@ -176,3 +177,9 @@ accepted-of L t e =
     let six = firstNo-yes (entriesAnswer L t) (heldAnswer L t ∷ []) (both .1) in
     let seven = firstNo-yes (heldAnswer L t) [] (six .1) in
     record { sound = lengths .0; exact = lengths .1; entries = six .0; held = seven .0 }
+
+-- what a yes to 1 to 7 and 15 says
+pub kept-of-yes : (L : Layer) (t : List ℕ) → firstNo (keptQuestions L t) ≡ Yes → Accepted L t × (allKeptAnswer (L .size) t ≡ Yes)
+kept-of-yes L t e =
+    let both = append-all (heldQuestions L t) (allKeptAnswer (L .size) t ∷ []) e in
+    (accepted-of L t (both .0), firstNo-yes (allKeptAnswer (L .size) t) [] (both .1) .0)

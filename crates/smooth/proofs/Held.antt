@@ -1,18 +1,17 @@
 -- What a yes to Smooth's questions says, and that Smooth keeps a layer held: what it leaves passes questions 1 to 7 and 15 again, since nothing
 -- is removed; and whatever the answer is, an accepted table stays one.
 use mathlib.Core.Path.{_≡_, refl, sym, _∙_, ap, subst}
-use mathlib.Core.List.{List, [], _∷_}
+use mathlib.Core.List.{List}
 use Prim.Native.Nat.{ℕ}
 use Rattle.grid.specs.Layer.{Layer}
 use Rattle.grid.specs.Questions.{firstNo, ifAllYes}
 use Rattle.grid.specs.declared.question.Answer.{Answer}
 use Rattle.grid.specs.declared.question.Answer.the-variants.{Yes, No}
-use Rattle.grid.proofs.Answers.{firstNo-yes, append-all}
 use Rattle.table.specs.Kept.{allKeptAnswer}
 use Rattle.table.proofs.AllKept.{passes-all-kept}
-use Rattle.held.specs.Questions.{heldQuestions, keptQuestions, Accepted}
+use Rattle.held.specs.Questions.{keptQuestions, Accepted}
 use Rattle.held.proofs.Holding.{all-kept-accepted}
-use Rattle.held.proofs.Asking.{accepted-of}
+use Rattle.held.proofs.Asking.{kept-of-yes}
 use Rattle.smooth.specs.Smooth.{smooth, Ready}
 use Rattle.smooth.specs.Call.{Outcome, refusedWith, doneWith, smoothOf}
 use Rattle.smooth.proofs.Walking.{ready-kept}
@@ -21,13 +20,13 @@ use Rattle.smooth.proofs.Passes.{smooth-kept}
 -- a yes to all questions
 pub ready-of : (L : Layer) (t : List ℕ) → firstNo (keptQuestions L t) ≡ Yes → Ready L t
 ready-of L t e =
-    let both = append-all (heldQuestions L t) (allKeptAnswer (L .size) t ∷ []) e in
-    let held = accepted-of L t (both .0) in
+    let both = kept-of-yes L t e in
+    let held = both .0 in
     record {
       sound = held .sound;
       whole = held .exact;
       entries = held .entries;
-      all-kept = firstNo-yes (allKeptAnswer (L .size) t) [] (both .1) .0;
+      all-kept = both .1;
     }
 
 -- what comes of the call, by the answer to its questions

@@ -1,0 +1,45 @@
+-- The paper's cases on simplifying, by running the definitions.
+use mathlib.Core.Path.{_≡_, refl}
+use mathlib.Core.Bool.{xor}
+use mathlib.Core.List.{List, [], _∷_}
+use Prim.Native.Nat.{ℕ}
+use Rattle.grid.specs.Layer.{Layer, layerOf, sizeOf, sample, bit}
+use Rattle.grid.specs.Edges.{number, edgeCount, edgeAt, isStick}
+use Rattle.grid.specs.Walk.{next, prev}
+use Rattle.contour.specs.Walk.{firstsAmong, ahead}
+use Rattle.table.specs.Entries.{entryOf}
+use Rattle.table.specs.Vertices.{offsetAt}
+use Rattle.chord.specs.Crossing.{off, parted, crosses, slidesWithin}
+use Rattle.simplify.specs.Runs.{Progress, simplify}
+
+-- "W 3, H 3, inside (1,1)", traced
+abbrev pub single : Layer
+single = layerOf (sizeOf 3 3) (0 ∷ 2 ∷ 0 ∷ [])
+
+abbrev pub singleTraced : List ℕ
+singleTraced = 0 ∷ 0 ∷ 128 ∷ 128 ∷ 0 ∷ 0 ∷ 0 ∷ 128 ∷ 0 ∷ 0 ∷ 128 ∷ 0 ∷ []
+
+-- "Simplify it at T 255: 6 runs tried, none removed; the chord touches the sample."
+pub single-sample : simplify single 255 singleTraced ≡ record { table = singleTraced; removed = 0; tried = 6 }
+unfolding simplify firstsAmong ahead number edgeCount edgeAt isStick sample bit next prev xor entryOf offsetAt crosses slidesWithin parted off
+single-sample = refl
+
+-- "W 5, H 3, inside (1,1), (2,1), (3,1)": its first contour starts at entry 4 and goes by 13, 14, 15, 7, 20, 19, 18
+abbrev pub bar : Layer
+bar = layerOf (sizeOf 5 3) (0 ∷ 14 ∷ 0 ∷ [])
+
+-- the table with these four entries at 13, 15, 18 and 20, and at 14 and 19; 4 and 7 are kept at 128
+abbrev pub barTable : ℕ → ℕ → List ℕ
+barTable corner middle =
+    0 ∷ 0 ∷ 0 ∷ 0 ∷ 128 ∷ 0 ∷ 0 ∷ 128 ∷ 0 ∷ 0 ∷ 0 ∷ 0 ∷
+    0 ∷ corner ∷ middle ∷ corner ∷ 0 ∷ 0 ∷ corner ∷ middle ∷ corner ∷ 0 ∷ []
+
+-- "traced, T 86: 4 removed, 6 tried."
+pub bar-removed : simplify bar 86 (barTable 128 128) ≡ record { table = barTable 384 128; removed = 4; tried = 6 }
+unfolding simplify firstsAmong ahead number edgeCount edgeAt isStick sample bit next prev xor entryOf offsetAt crosses slidesWithin parted off
+bar-removed = refl
+
+-- "T 85: 0 removed, 14 tried. (The slide is 256/3.)"
+pub bar-kept : simplify bar 85 (barTable 128 128) ≡ record { table = barTable 128 128; removed = 0; tried = 14 }
+unfolding simplify firstsAmong ahead number edgeCount edgeAt isStick sample bit next prev xor entryOf offsetAt crosses slidesWithin parted off
+bar-kept = refl

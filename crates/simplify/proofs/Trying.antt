@@ -1,0 +1,264 @@
+-- What trying a run does: it passes, or it is split. How many runs are tried and vertices removed, that counting may start from 0, that a
+-- depth beyond the number of edges changes nothing, and that the table keeps its length.
+use mathlib.Core.Path.{_≡_, refl, sym, _∙_, ap, subst}
+use mathlib.Core.Bool.{Bool, true, false, true≢false}
+use mathlib.Core.List.{List, [], _∷_, foldl}
+use Prim.Native.Nat.{ℕ, zero, suc, _+_, _-_, _*_, _/_, _≤_, _<_}
+use native.Mathlib.Decide.{decLe}
+use native.Mathlib.Omega.{arith}
+use lib.ListN.{length, set, length-set}
+use Rattle.arith.specs.Booleans.{both-sides}
+use Rattle.grid.specs.Layer.{Layer}
+use Rattle.grid.specs.Edges.{number}
+use Rattle.grid.specs.declared.edge.Edge.{Edge}
+use Rattle.contour.specs.Contours.{walkOf, contourOf}
+use Rattle.contour.proofs.Orbit.{ahead-add}
+use Rattle.table.specs.Vertices.{offsetAt}
+use Rattle.simplify.specs.Runs.{stickAfter, between, passes, Progress, removeVertex, removeInner, half, oneTried, tryRun, simplifyContour}
+use Rattle.simplify.specs.Parts.{begun}
+use Rattle.simplify.proofs.Steps.{each-none}
+
+-- the counts of p on top of those of s
+abbrev pub onTop : Progress → Progress → Progress
+onTop s p = record { table = p .table; removed = s .removed + p .removed; tried = s .tried + p .tried }
+
+pub length-inner : (L : Layer) (l : List Edge) (t : List ℕ) → length (foldl (removeVertex L) t l) ≡ length t
+length-inner L [] t = refl
+length-inner L (e ∷ l) t =
+    length-inner L l (removeVertex L t e) ∙ length-set t (number (L .size) e) (256 + offsetAt L t e)
+
+pub inner-is : (L : Layer) (s : Progress) (e : Edge) (n : ℕ) → removeInner L s e n
+    ≡ record { table = foldl (removeVertex L) (s .table) (between L e n); removed = s .removed + (n - 1); tried = s .tried }
+unfolding removeInner
+inner-is L s e n = refl
+
+-- a single edge passes
+pub passes-short : (L : Layer) (t : List ℕ) (tolerance : ℕ) (e : Edge) (n : ℕ) → n ≤ 1 → passes L t tolerance e n ≡ true
+unfolding passes
+passes-short L t tolerance e n h = each-none L _ n e h
+
+-- so a run that does not pass has two edges or more, and two parts that are shorter
+pub record Split (n : ℕ) : Type 0 where
+  pub more : 2 ≤ n
+  pub first-some : 1 ≤ half n
+  pub second-some : 1 ≤ n - half n
+  pub first-less : half n < n
+  pub second-less : n - half n < n
+  pub together : half n + (n - half n) ≡ n
+
+pub split-of : (n : ℕ) → 2 ≤ n → Split n
+split-of n h =
+    record {
+      more = h;
+      first-some = omega arith;
+      second-some = omega arith;
+      first-less = omega arith;
+      second-less = omega arith;
+      together = omega arith;
+    }
+
+pub split : (L : Layer) (t : List ℕ) (tolerance : ℕ) (e : Edge) (n : ℕ) → passes L t tolerance e n ≡ false → Split n
+split L t tolerance e n f = split-of n (elim (decLe n 1) [
+  | yes h ↦ absurd (true≢false (sym (passes-short L t tolerance e n h) ∙ f))
+  | no g ↦ omega arith
+])
+
+-- how many runs are tried, and vertices removed
+pub record Within (n : ℕ) (s r : Progress) : Type 0 where
+  pub tried-least : s .tried ≤ r .tried
+  pub tried-most : r .tried ≤ s .tried + (1 + 2 * (n - 1))
+  pub removed-least : s .removed ≤ r .removed
+  pub removed-most : r .removed ≤ s .removed + (n - 1)
+  pub whole : length (r .table) ≡ length (s .table)
+
+module _ (L : Layer) (tolerance : ℕ) where
+  by-passes : ℕ → Progress → Edge → ℕ → Bool → Progress
+  by-passes depth s e n b = elim b [
+    | true ↦ removeInner L (oneTried s) e n
+    | false ↦ tryRun L tolerance depth (tryRun L tolerance depth (oneTried s) e (half n)) (stickAfter L (half n) e) (n - half n)
+  ]
+
+  pub try-passes : (depth : ℕ) (s : Progress) (e : Edge) (n : ℕ) → passes L (s .table) tolerance e n ≡ true
+      → tryRun L tolerance (suc depth) s e n ≡ removeInner L (oneTried s) e n
+  unfolding tryRun by-passes
+  try-passes depth s e n h = ap (by-passes depth s e n) h
+
+  pub try-splits : (depth : ℕ) (s : Progress) (e : Edge) (n : ℕ) → passes L (s .table) tolerance e n ≡ false
+      → tryRun L tolerance (suc depth) s e n
+      ≡ tryRun L tolerance depth (tryRun L tolerance depth (oneTried s) e (half n)) (stickAfter L (half n) e) (n - half n)
+  unfolding tryRun by-passes
+  try-splits depth s e n h = ap (by-passes depth s e n) h
+
+  pub try-none : (s : Progress) (e : Edge) (n : ℕ) → tryRun L tolerance 0 s e n ≡ s
+  unfolding tryRun
+  try-none s e n = refl
+
+  -- counting may start from 0: of one run, and of two in turn
+  two-of : (depth : ℕ) → ((s : Progress) (e : Edge) (n : ℕ) → tryRun L tolerance depth s e n ≡ onTop s (tryRun L tolerance depth (begun (s .table)) e n))
+      → (s : Progress) (e m : Edge) (h k : ℕ) → let a : Progress = tryRun L tolerance depth (begun (s .table)) e h in
+      tryRun L tolerance depth (tryRun L tolerance depth s e h) m k ≡ onTop (onTop s a) (tryRun L tolerance depth (begun (a .table)) m k)
+  two-of depth from s e m h k =
+      let a : Progress = tryRun L tolerance depth (begun (s .table)) e h in
+      ap (λ (p : Progress). tryRun L tolerance depth p m k) (from s e h) ∙ from (onTop s a) m k
+
+  pub try-from : (depth : ℕ) (s : Progress) (e : Edge) (n : ℕ)
+      → tryRun L tolerance depth s e n ≡ onTop s (tryRun L tolerance depth (begun (s .table)) e n)
+  unfolding removeInner
+  try-from zero s e n =
+      let none : s ≡ onTop s (begun (s .table)) =
+      λ i. record { table = s .table; removed = nothing (s .removed) i; tried = nothing (s .tried) i } in
+      try-none s e n ∙ none ∙ sym (ap (onTop s) (try-none (begun (s .table)) e n))
+    where
+      nothing : (m : ℕ) → m ≡ m + 0
+      nothing m = omega arith
+  try-from (suc depth) s e n = both-sides (passes L (s .table) tolerance e n)
+      (λ h. try-passes depth s e n h ∙ counted ∙ sym (ap (onTop s) (try-passes depth (begun (s .table)) e n h)))
+      (λ h.
+      let a : Progress = tryRun L tolerance depth (begun (s .table)) e (half n) in
+      let b : Progress = tryRun L tolerance depth (begun (a .table)) (stickAfter L (half n) e) (n - half n) in
+      try-splits depth s e n h ∙ two-of depth (try-from depth) (oneTried s) e (stickAfter L (half n) e) (half n) (n - half n)
+      ∙ regrouped a b
+      ∙ sym (ap (onTop s) (two-of depth (try-from depth) (oneTried (begun (s .table))) e (stickAfter L (half n) e) (half n) (n - half n)))
+      ∙ sym (ap (onTop s) (try-splits depth (begun (s .table)) e n h)))
+    where
+      one-more : (m k : ℕ) → m + k ≡ m + (0 + k)
+      one-more m k = omega arith
+
+      sums : (m u x y : ℕ) → m + u + x + y ≡ m + (0 + u + x + y)
+      sums m u x y = omega arith
+
+      plain : (m x y : ℕ) → m + x + y ≡ m + (0 + x + y)
+      plain m x y = omega arith
+
+      counted : removeInner L (oneTried s) e n ≡ onTop s (removeInner L (oneTried (begun (s .table))) e n)
+      counted = λ i. record {
+        table = foldl (removeVertex L) (s .table) (between L e n);
+        removed = one-more (s .removed) (n - 1) i;
+        tried = one-more (s .tried) 1 i;
+      }
+
+      regrouped : (a b : Progress) → onTop (onTop (oneTried s) a) b ≡ onTop s (onTop (onTop (oneTried (begun (s .table))) a) b)
+      regrouped a b = λ i. record {
+        table = b .table;
+        removed = plain (s .removed) (a .removed) (b .removed) i;
+        tried = sums (s .tried) 1 (a .tried) (b .tried) i;
+      }
+
+  pub try-two : (depth : ℕ) (s : Progress) (e m : Edge) (h k : ℕ) → let a : Progress = tryRun L tolerance depth (begun (s .table)) e h in
+      tryRun L tolerance depth (tryRun L tolerance depth s e h) m k ≡ onTop (onTop s a) (tryRun L tolerance depth (begun (a .table)) m k)
+  try-two depth = two-of depth (try-from depth)
+
+  -- a depth of as many as there are edges is enough
+  pub try-deep : (d d′ : ℕ) (s : Progress) (e : Edge) (n : ℕ) → 1 ≤ d → n ≤ d → 1 ≤ d′ → n ≤ d′
+      → tryRun L tolerance d s e n ≡ tryRun L tolerance d′ s e n
+  try-deep zero d′ s e n a b c h = absurd (omega arith)
+  try-deep (suc d) zero s e n a b c h = absurd (omega arith)
+  try-deep (suc d) (suc d′) s e n a b c h = both-sides (passes L (s .table) tolerance e n)
+      (λ y. try-passes d s e n y ∙ sym (try-passes d′ s e n y))
+      (λ f.
+      let p = split L (s .table) tolerance e n f in
+      let m = stickAfter L (half n) e in
+      try-splits d s e n f
+      ∙ ap (λ (x : Progress). tryRun L tolerance d x m (n - half n))
+      (try-deep d d′ (oneTried s) e (half n) (omega (arith, p)) (omega (arith, p)) (omega (arith, p)) (omega (arith, p)))
+      ∙ try-deep d d′ (tryRun L tolerance d′ (oneTried s) e (half n)) m (n - half n)
+      (omega (arith, p)) (omega (arith, p)) (omega (arith, p)) (omega (arith, p))
+      ∙ sym (try-splits d′ s e n f))
+
+  pub try-within : (depth : ℕ) (s : Progress) (e : Edge) (n : ℕ) → Within n s (tryRun L tolerance depth s e n)
+  unfolding removeInner
+  try-within zero s e n =
+      rw (try-none s e n)
+      (record { tried-least = omega arith; tried-most = omega arith; removed-least = omega arith; removed-most = omega arith; whole = refl })
+  try-within (suc depth) s e n = both-sides (passes L (s .table) tolerance e n)
+      (λ y. rw (try-passes depth s e n y) (record {
+        tried-least = omega arith;
+        tried-most = omega arith;
+        removed-least = omega arith;
+        removed-most = omega arith;
+        whole = length-inner L (between L e n) (s .table);
+      }))
+      (λ f.
+      let p = split L (s .table) tolerance e n f in
+      let m = stickAfter L (half n) e in
+      let a = try-within depth (oneTried s) e (half n) in
+      let b = try-within depth (tryRun L tolerance depth (oneTried s) e (half n)) m (n - half n) in
+      rw (try-splits depth s e n f) (record {
+        tried-least = omega (arith, a .tried-least, b .tried-least);
+        tried-most = omega (arith, p, a .tried-most, b .tried-most);
+        removed-least = omega (arith, a .removed-least, b .removed-least);
+        removed-most = omega (arith, p, a .removed-most, b .removed-most);
+        whole = b .whole ∙ a .whole;
+      }))
+
+  -- What the code finds of two runs in turn, each counted from 0 and each at its own depth
+
+  pub two-runs : (d : ℕ) (s : Progress) (e m : Edge) (h k : ℕ) → 1 ≤ h → h ≤ d → 1 ≤ k → k ≤ d → (p q : Progress)
+      → p ≡ tryRun L tolerance h (begun (s .table)) e h → q ≡ tryRun L tolerance k (begun (p .table)) m k
+      → onTop (onTop s p) q ≡ tryRun L tolerance d (tryRun L tolerance d s e h) m k
+  two-runs d s e m h k some-h most-h some-k most-k p q at-p at-q =
+      let first : p ≡ tryRun L tolerance d (begun (s .table)) e h = at-p ∙ try-deep h d (begun (s .table)) e h some-h (omega arith) (omega arith) most-h in
+      let second : q ≡ tryRun L tolerance d (begun (tryRun L tolerance d (begun (s .table)) e h .table)) m k =
+      at-q ∙ try-deep k d (begun (p .table)) m k some-k (omega arith) (omega arith) most-k
+      ∙ ap (λ (x : Progress). tryRun L tolerance d (begun (x .table)) m k) first in
+      (λ i. onTop (onTop s (first i)) (second i)) ∙ sym (try-two d s e m h k)
+
+  -- where the second of them ends
+  pub end-of : (e m end : Edge) (n h : ℕ) → h ≤ n → m ≡ stickAfter L h e → end ≡ stickAfter L n e → end ≡ stickAfter L (n - h) m
+  end-of e m end n h l at-m at-end =
+      let sum : h + (n - h) ≡ n = omega arith in
+      at-end ∙ ap (λ (k : ℕ). stickAfter L k e) (sym sum) ∙ ahead-add (walkOf L) h (n - h) e ∙ ap (stickAfter L (n - h)) (sym at-m)
+
+  -- a run that passes, and one that is split
+  pub run-passed : (t : List ℕ) (e : Edge) (n : ℕ) → 1 ≤ n → passes L t tolerance e n ≡ true
+      → record { table = foldl (removeVertex L) t (between L e n); removed = n - 1; tried = 1 } ≡ tryRun L tolerance n (begun t) e n
+  unfolding removeInner
+  run-passed t e n some h =
+      let depth : suc (n - 1) ≡ n = omega arith in
+      (λ i. record { table = foldl (removeVertex L) t (between L e n); removed = zero-more (n - 1) i; tried = zero-more 1 i })
+      ∙ sym (try-passes (n - 1) (begun t) e n h)
+      ∙ ap (λ (d : ℕ). tryRun L tolerance d (begun t) e n) depth
+    where
+      zero-more : (k : ℕ) → k ≡ 0 + k
+      zero-more k = omega arith
+
+  pub run-split : (t : List ℕ) (e m : Edge) (n h : ℕ) → passes L t tolerance e n ≡ false → h ≡ half n → m ≡ stickAfter L h e
+      → (p q : Progress) → p ≡ tryRun L tolerance h (begun t) e h → q ≡ tryRun L tolerance (n - h) (begun (p .table)) m (n - h)
+      → record { table = q .table; removed = p .removed + q .removed; tried = 1 + p .tried + q .tried } ≡ tryRun L tolerance n (begun t) e n
+  run-split t e m n h f at-h at-m p q at-p at-q =
+      let s = split L t tolerance e n f in
+      let depth : suc (n - 1) ≡ n = omega (arith, s) in
+      (λ i. record { table = q .table; removed = none-more (p .removed) (q .removed) i; tried = one-more (p .tried) (q .tried) i })
+      ∙ two-runs (n - 1) (oneTried (begun t)) e m h (n - h) (omega (arith, s)) (omega (arith, s)) (omega (arith, s)) (omega (arith, s)) p q at-p at-q
+      ∙ (λ i. tryRun L tolerance (n - 1) (tryRun L tolerance (n - 1) (oneTried (begun t)) e (at-h i)) ((at-m ∙ ap (λ (k : ℕ). stickAfter L k e) at-h) i) (n - at-h i))
+      ∙ sym (try-splits (n - 1) (begun t) e n f)
+      ∙ ap (λ (d : ℕ). tryRun L tolerance d (begun t) e n) depth
+    where
+      none-more : (x y : ℕ) → x + y ≡ 0 + x + y
+      none-more x y = omega arith
+
+      one-more : (x y : ℕ) → 1 + x + y ≡ 0 + 1 + x + y
+      one-more x y = omega arith
+
+  -- a contour
+  pub contour-runs : (s : Progress) (f : Edge) → let n : ℕ = length (contourOf L f) in simplifyContour L tolerance s f
+      ≡ tryRun L tolerance n (tryRun L tolerance n s f (half n)) (stickAfter L (half n) f) (n - half n)
+  unfolding simplifyContour
+  contour-runs s f = refl
+
+  pub contour-joined : (t : List ℕ) (f m : Edge) (n h : ℕ) → 2 ≤ n → n ≡ length (contourOf L f) → h ≡ half n → m ≡ stickAfter L h f
+      → (p q : Progress) → p ≡ tryRun L tolerance h (begun t) f h → q ≡ tryRun L tolerance (n - h) (begun (p .table)) m (n - h)
+      → record { table = q .table; removed = p .removed + q .removed; tried = p .tried + q .tried } ≡ simplifyContour L tolerance (begun t) f
+  contour-joined t f m n h more at-n at-h at-m p q at-p at-q =
+      let s = split-of n more in
+      (λ i. record { table = q .table; removed = none-more (p .removed) (q .removed) i; tried = none-more (p .tried) (q .tried) i })
+      ∙ two-runs n (begun t) f m h (n - h) (omega (arith, s)) (omega (arith, s)) (omega (arith, s)) (omega (arith, s)) p q at-p at-q
+      ∙ (λ i. tryRun L tolerance n (tryRun L tolerance n (begun t) f (at-h i)) ((at-m ∙ ap (λ (k : ℕ). stickAfter L k f) at-h) i) (n - at-h i))
+      ∙ (λ i. tryRun L tolerance (at-n i) (tryRun L tolerance (at-n i) (begun t) f (half (at-n i))) (stickAfter L (half (at-n i)) f) (at-n i - half (at-n i)))
+      ∙ sym (contour-runs (begun t) f)
+    where
+      none-more : (x y : ℕ) → x + y ≡ 0 + x + y
+      none-more x y = omega arith
+
+  pub within-of : (depth : ℕ) (t : List ℕ) (e : Edge) (n : ℕ) (p : Progress) → p ≡ tryRun L tolerance depth (begun t) e n → Within n (begun t) p
+  within-of depth t e n p at-p = rw at-p (try-within depth (begun t) e n)

@@ -1,0 +1,4 @@
+-- What the promise of Simplify says.
+pub mod Runs
+pub mod Parts
+pub mod Call
