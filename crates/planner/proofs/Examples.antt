@@ -1,0 +1,66 @@
+-- The planner's list of the paper's single sample as traced, by running the definitions: in samples, and with room enough and too little.
+use mathlib.Core.Path.{_≡_, refl}
+use mathlib.Core.Bool.{false, xor}
+use mathlib.Core.List.{List, [], _∷_, flatten}
+use Prim.Native.Nat.{ℕ}
+use lib.IntN.{ℤ, pos, negsuc}
+use lib.Ieee.{Float, fin, nan, ofInt, div}
+use Rattle.arith.specs.Ranges.{leastFrom}
+use Rattle.grid.specs.Layer.{Layer, layerOf, sizeOf, sample, bit}
+use Rattle.grid.specs.Edges.{number, edgeCount, edgeAt, isStick}
+use Rattle.grid.specs.Questions.{sidesAnswer, lengthAnswer, spareAnswer, borderAnswer}
+use Rattle.grid.specs.Walk.{next, prev}
+use Rattle.contour.specs.Walk.{firstsAmong}
+use Rattle.contour.specs.Contours.{firstSticks}
+use Rattle.table.specs.Entries.{entryOf, entriesAnswer, tableLengthAnswer}
+use Rattle.table.specs.Vertices.{keptAt, removedAt, offsetAt, removedFrom, keptFrom}
+use Rattle.held.specs.Held.{edgeCrosses, heldContour, heldAnswer}
+use Rattle.planner.specs.Items.{inSamples}
+use Rattle.planner.specs.Plan.{Outcome, roomAnswer, answered, planOf}
+
+-- "W 3, H 3, inside (1,1)", every stick kept at 128
+abbrev single : Layer
+single = layerOf (sizeOf 3 3) (0 ∷ 2 ∷ 0 ∷ [])
+
+abbrev traced : List ℕ
+traced = 0 ∷ 0 ∷ 128 ∷ 128 ∷ 0 ∷ 0 ∷ 0 ∷ 128 ∷ 0 ∷ 0 ∷ 128 ∷ 0 ∷ []
+
+-- 0.5, 1 and 1.5
+abbrev half : Float
+half = fin false 1 (negsuc 0)
+
+abbrev one : Float
+one = fin false 1 (pos 0)
+
+abbrev three-halves : Float
+three-halves = fin false 3 (negsuc 0)
+
+-- a move to the vertex on the left, lines to those below, on the right and above, a close; what lies past the answer stays
+pub single-list : planOf single traced (firstSticks single) (7 ∷ 7 ∷ 7 ∷ 7 ∷ 7 ∷ 7 ∷ []) (nan ∷ nan ∷ nan ∷ nan ∷ nan ∷ nan ∷ nan ∷ nan ∷ [])
+    ≡ record {
+      refusal = 0;
+      place = 0;
+      items = 5;
+      floats = 8;
+      itemBuffer = 0x4D ∷ 0x6C ∷ 0x6C ∷ 0x6C ∷ 0x5A ∷ 7 ∷ [];
+      pointBuffer = half ∷ one ∷ one ∷ half ∷ three-halves ∷ one ∷ one ∷ three-halves ∷ [];
+    }
+unfolding sidesAnswer lengthAnswer spareAnswer borderAnswer tableLengthAnswer entriesAnswer heldAnswer heldContour edgeCrosses
+    firstsAmong number edgeCount edgeAt isStick sample bit next prev xor leastFrom keptAt removedAt offsetAt removedFrom keptFrom entryOf
+    roomAnswer answered inSamples div ofInt flatten
+single-list = refl
+
+-- one float too few: 14, and nothing is written
+pub single-short : planOf single traced (firstSticks single) (7 ∷ 7 ∷ 7 ∷ 7 ∷ 7 ∷ []) (nan ∷ nan ∷ nan ∷ nan ∷ nan ∷ nan ∷ nan ∷ [])
+    ≡ record {
+      refusal = 14;
+      place = 0;
+      items = 0;
+      floats = 0;
+      itemBuffer = 7 ∷ 7 ∷ 7 ∷ 7 ∷ 7 ∷ [];
+      pointBuffer = nan ∷ nan ∷ nan ∷ nan ∷ nan ∷ nan ∷ nan ∷ [];
+    }
+unfolding sidesAnswer lengthAnswer spareAnswer borderAnswer tableLengthAnswer entriesAnswer heldAnswer heldContour edgeCrosses
+    firstsAmong number edgeCount edgeAt isStick sample bit next prev xor leastFrom keptAt removedAt offsetAt removedFrom keptFrom entryOf
+    roomAnswer answered inSamples div ofInt flatten
+single-short = refl

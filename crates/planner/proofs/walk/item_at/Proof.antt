@@ -1,0 +1,36 @@
+-- `item_at` meets its contract.
+use mathlib.Core.Path.{ap, _∙_}
+use Prim.Native.Nat.{ℕ}
+use borrow.Author.Needs.{needs}
+use Rattle.chord.specs.Points.{position}
+use Rattle.table.specs.Vertices.{offsetIn}
+use Rattle.held.proofs.Asking.{in-grid-near}
+use Rattle.planner.specs.Items.{pointAt, itemTo}
+use Rattle.planner.proofs.walk.item_at.Statement.{statement}
+use Rattle.planner.proofs.walk.item_at.Tie as tie
+
+entry-at-requires : tie.Need-entry-at-requires
+entry-at-requires c κs = search needs
+
+offset-in-requires : tie.Need-offset-in-requires
+offset-in-requires c κs = search needs
+
+point-of-requires : tie.Need-point-of-requires
+point-of-requires c κs =
+    let start = c .before .before .before in
+    in-grid-near (start .args .size) (start .pre .0) (start .args .e) (start .pre .1 .1)
+
+item-to-requires : tie.Need-item-to-requires
+item-to-requires c κs = search needs
+
+returns : tie.Need-returns
+returns c =
+    let a = c .before .before .before .before .before .args in
+    let offset = c .before .before .offset-in .ensures ∙ ap offsetIn (c .before .before .before .entry-at .ensures) in
+    c .item-to .ensures
+    ∙ ap (itemTo (a .due)) (c .before .point-of .ensures ∙ ap (λ (o : ℕ). pointAt (position (a .e) o)) offset)
+
+pub item-at-spec : {M : Type 1} → statement M
+item-at-spec =
+    tie.close
+    (tie.spec entry-at-requires offset-in-requires point-of-requires item-to-requires returns)

@@ -1,0 +1,122 @@
+// The public call: questions 1 to 7 and 14, and the items of all contours.
+use super::item::Reached;
+use super::walk::write_contour;
+use contour::contour_count;
+use contour::first_sticks;
+use contour::next_first;
+use grid::Answer;
+use grid::Refusal;
+use grid::Size;
+use grid::edge_at;
+use grid::kind_start;
+use table::entry_of;
+use table::is_kept;
+ghost use mathlib.Core.Path.{_≡_};
+ghost use mathlib.Core.List.{foldl};
+ghost use lib.ListN.{length};
+ghost use Rattle.arith.specs.Ranges.{count};
+ghost use Rattle.grid.specs.Layer.{layerOf, sizeOf};
+ghost use Rattle.grid.specs.Edges.{edgeCount};
+ghost use Rattle.grid.specs.Questions.{Sound};
+ghost use Rattle.contour.specs.Sets.{FirstSet};
+ghost use Rattle.held.specs.Questions.{Accepted};
+ghost use Rattle.planner.specs.Plan.{outcome, Promised};
+ghost use Rattle.planner.specs.Writing.{keptEntry, buffersOf, atStart, writeItem, Room, ascending, acceptedOf};
+
+// The call's answer: how many items and floats were written, or refused with the question and its place.
+pub enum Planned {
+    Done { items: usize, floats: usize },
+    Refused(Refusal, usize),
+}
+
+// How many entries have a kept vertex.
+fn count_kept(table: &[u16]) -> usize
+    ensures { λ r. ⌜ r ≡ count (keptEntry (now (table .entry))) (length (now (table .entry))) ⌝ }
+{
+    let mut kept: usize = 0;
+    let mut n = 0;
+    while n < table.len() {
+        if is_kept(entry_of(table[n])) {
+            kept += 1;
+        }
+        n += 1;
+    }
+    kept
+}
+
+// Writes the items of all contours, in ascending order of their first sticks.
+fn write_contours(
+    size: Size,
+    bitmap: &[u8],
+    table: &[u16],
+    set: &[u64; 16368],
+    items: &mut [u8],
+    points: &mut [f64],
+) -> Reached
+    requires { ⌜ Sound (layerOf size (now bitmap)) ⌝ }
+    requires { ⌜ length (now table) ≡ edgeCount size ⌝ }
+    requires { ⌜ FirstSet (layerOf size (now bitmap)) (now set) ⌝ }
+    requires { ⌜ Room (buffersOf (now items) (now points) atStart) (ascending (layerOf size (now bitmap)) (now table)) ⌝ }
+    ensures { λ r. ⌜ buffersOf (now (items .exit)) (now (points .exit)) r ≡ foldl writeItem (buffersOf (now (items .entry)) (now (points .entry)) atStart) (ascending (layerOf size (now (bitmap .entry))) (now (table .entry))) ⌝ }
+{
+    let end = kind_start(size, true);
+    let mut at = Reached {
+        items: 0,
+        floats: 0,
+    };
+    let mut n = next_first(set, 0, end);
+    while n < end {
+        at = write_contour(size, bitmap, table, items, points, at, edge_at(size, n));
+        n = next_first(set, n + 1, end);
+    }
+    at
+}
+
+// Question 14, and the list, of a layer that passed 1 to 7.
+fn plan_accepted(
+    size: Size,
+    bitmap: &[u8],
+    table: &[u16],
+    items: &mut [u8],
+    points: &mut [f64],
+) -> Planned
+    requires { ⌜ Accepted (layerOf size (now bitmap)) (now table) ⌝ }
+    ensures { λ r. ⌜ outcome r (now (items .exit)) (now (points .exit)) ≡ acceptedOf (layerOf size (now (bitmap .entry))) (now (table .entry)) (now (items .entry)) (now (points .entry)) ⌝ }
+{
+    let mut set: [u64; 16368] = [0; 16368];
+    first_sticks(size, bitmap, &mut set);
+    let kept = count_kept(table);
+    if items.len() < kept + contour_count(&set) {
+        return Planned::Refused(Refusal::ShortOutput, 0);
+    }
+    if points.len() < 2 * kept {
+        return Planned::Refused(Refusal::ShortOutput, 0);
+    }
+    let at = write_contours(size, bitmap, table, &set, items, points);
+    Planned::Done {
+        items: at.items,
+        floats: at.floats,
+    }
+}
+
+// Writes the planner's list. A refusal leaves both outputs as found.
+pub fn plan(
+    w: u16,
+    h: u16,
+    bitmap: &[u8],
+    table: &[u16],
+    items: &mut [u8],
+    points: &mut [f64],
+) -> Planned
+    ensures { λ r. ⌜ Promised (layerOf (sizeOf w h) (now (bitmap .entry))) (now (table .entry)) (now (items .entry)) (now (points .entry)) r (now (items .exit)) (now (points .exit)) ⌝ }
+{
+    let size = Size {
+        width: w as usize,
+        height: h as usize,
+    };
+    let answer = held::ask_layer_held(size, bitmap, table);
+    match answer {
+        Answer::Yes => plan_accepted(size, bitmap, table, items, points),
+        Answer::No(q, place) => Planned::Refused(q, place),
+    }
+}

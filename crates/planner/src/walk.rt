@@ -1,0 +1,67 @@
+// The items of one contour.
+use super::item::Item;
+use super::item::Reached;
+use super::item::item_to;
+use super::item::point_of;
+use super::item::put_item;
+use contour::same_edge;
+use grid::Edge;
+use grid::Size;
+use grid::next_stick;
+use table::entry_at;
+use table::is_kept;
+use table::offset_in;
+ghost use mathlib.Core.Path.{_≡_};
+ghost use mathlib.Core.Bool.{true};
+ghost use mathlib.Core.List.{foldl};
+ghost use lib.ListN.{length, getD};
+ghost use Rattle.grid.specs.Layer.{layerOf};
+ghost use Rattle.grid.specs.Edges.{isStick, inGrid, number, edgeCount};
+ghost use Rattle.grid.specs.Questions.{Sized, Sound};
+ghost use Rattle.chord.specs.Points.{position};
+ghost use Rattle.table.specs.Entries.{entryOf};
+ghost use Rattle.table.specs.Vertices.{offsetIn};
+ghost use Rattle.planner.specs.Items.{pointAt, itemTo, contourItems};
+ghost use Rattle.planner.specs.Writing.{buffersOf, writeItem, Room};
+
+// The item that leads to the vertex of a stick.
+fn item_at(size: Size, table: &[u16], e: Edge, due: bool) -> Item
+    requires { ⌜ Sized size ⌝ }
+    requires { ⌜ length (now table) ≡ edgeCount size ⌝ }
+    requires { ⌜ inGrid size e ≡ true ⌝ }
+    ensures { λ r. ⌜ r ≡ itemTo due (pointAt (position e (offsetIn (entryOf (getD (now (table .entry)) (number size e) 0))))) ⌝ }
+{
+    item_to(due, point_of(e, offset_in(entry_at(size, table, e))))
+}
+
+// Writes the items of the contour that starts at `first`: a move is due until the first kept vertex.
+pub fn write_contour(
+    size: Size,
+    bitmap: &[u8],
+    table: &[u16],
+    items: &mut [u8],
+    points: &mut [f64],
+    start: Reached,
+    first: Edge,
+) -> Reached
+    requires { ⌜ Sound (layerOf size (now bitmap)) ⌝ }
+    requires { ⌜ length (now table) ≡ edgeCount size ⌝ }
+    requires { ⌜ isStick (layerOf size (now bitmap)) first ≡ true ⌝ }
+    requires { ⌜ Room (buffersOf (now items) (now points) start) (contourItems (layerOf size (now bitmap)) (now table) first) ⌝ }
+    ensures { λ r. ⌜ buffersOf (now (items .exit)) (now (points .exit)) r ≡ foldl writeItem (buffersOf (now (items .entry)) (now (points .entry)) start) (contourItems (layerOf size (now (bitmap .entry))) (now (table .entry)) first) ⌝ }
+{
+    let mut at = start;
+    let mut due = true;
+    let mut e = first;
+    loop {
+        if is_kept(entry_at(size, table, e)) {
+            at = put_item(items, points, at, item_at(size, table, e, due));
+            due = false;
+        }
+        e = next_stick(size, bitmap, e);
+        if same_edge(e, first) {
+            break;
+        }
+    }
+    put_item(items, points, at, Item::Close)
+}
