@@ -27,8 +27,8 @@ use Rattle.held.specs.Held.{each, vertex}
 use Rattle.held.proofs.Vertices.{vertices-of, kept-of}
 use Rattle.held.proofs.Stores.{removal-vertex, removal-more, removal-entries, removal-length}
 use Rattle.held.proofs.FourKept.{four-sticks}
-use Rattle.simplify.specs.Runs.{stickAfter, following, passes, chordPasses, Progress, removeVertex, removeInner, half, oneTried, tryRun, simplifyContour}
-use Rattle.simplify.proofs.Trying.{Split, split, split-of, try-passes, try-splits, inner-is, contour-runs}
+use Rattle.simplify.specs.Runs.{stickAfter, following, passes, chordPasses, Progress, removeVertex, half, oneTried, tryRun, simplifyContour}
+use Rattle.simplify.proofs.Trying.{split, split-of, try-passes, try-splits, inner-is, contour-runs}
 
 -- a table of a sound layer that passes questions 5 and 6
 pub record Sane (L : Layer) (t : List ℕ) : Type 0 where
@@ -199,7 +199,8 @@ module _ (L : Layer) (sound : Sound L) where
   unfolding ahead
   passed t tolerance e n some sane stick kept apart yes-all =
       let t′ : List ℕ = foldl (removeVertex L) t (following L (n - 1) e) in
-      let r = remove-following (n - 1) e t sane stick (λ j a b. kept j (omega arith)) (λ i j a b c. apart i j a (omega arith) (omega arith) (λ q. omega arith)) in
+      let r = remove-following (n - 1) e t sane stick (λ j a b. kept j (omega arith))
+      (λ i j a b c. apart i j a (omega arith) (omega arith) (λ q. omega arith)) in
       let whole : suc (n - 1) ≡ n = omega arith in
       let thins : Thins L t t′ e n = subst (Thins L t t′ e) whole (r .0) in
       let end : removedAt L t′ (stickAfter L n e) ≡ false =
@@ -208,7 +209,8 @@ module _ (L : Layer) (sound : Sound L) where
         some = some;
         ends = end;
         over = λ j a b. r .1 j a (omega arith);
-        crossed = λ j a b. (λ i. crosses (thins .unmoved e i) (thins .unmoved (stickAfter L n e) i) (stickAfter L j e)) ∙ passes-crosses L t tolerance e n yes-all j a b;
+        crossed = λ j a b. (λ i. crosses (thins .unmoved e i) (thins .unmoved (stickAfter L n e) i) (stickAfter L j e))
+            ∙ passes-crosses L t tolerance e n yes-all j a b;
       } in
       record { thins = thins; covers = started t′ piece (r .1) }
     where

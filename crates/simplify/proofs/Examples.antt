@@ -10,7 +10,7 @@ use Rattle.contour.specs.Walk.{firstsAmong, ahead}
 use Rattle.table.specs.Entries.{entryOf}
 use Rattle.table.specs.Vertices.{offsetAt}
 use Rattle.chord.specs.Crossing.{off, parted, crosses, slidesWithin}
-use Rattle.simplify.specs.Runs.{Progress, simplify}
+use Rattle.simplify.specs.Runs.{simplify}
 
 -- "W 3, H 3, inside (1,1)", traced
 abbrev pub single : Layer

@@ -2,7 +2,7 @@
 -- that is at most two runs, and one vertex, for each stick.
 use mathlib.Core.Path.{_≡_, refl, sym, _∙_, ap}
 use mathlib.Core.Bool.{true}
-use mathlib.Core.List.{List, [], _∷_, _++_, foldl, map, flatten}
+use mathlib.Core.List.{List, [], _∷_, foldl, map, flatten}
 use Prim.Native.Nat.{ℕ, _+_, _-_, _*_, _≤_, _<_}
 use native.Mathlib.Omega.{arith}
 use lib.ListN.{length, length-append}

@@ -1,5 +1,5 @@
 -- What the loops along a run cite: the sticks that are left, taken one at a time.
-use mathlib.Core.Path.{_≡_, refl, sym, _∙_, ap}
+use mathlib.Core.Path.{_≡_, refl, _∙_, ap}
 use mathlib.Core.Bool.{Bool, true, false, _&&_}
 use mathlib.Core.List.{List, [], _∷_, foldl}
 use Prim.Native.Nat.{ℕ, zero, suc, _-_, _≤_, _<_}
@@ -8,7 +8,6 @@ use Rattle.grid.specs.Layer.{Layer}
 use Rattle.grid.specs.Walk.{next}
 use Rattle.grid.specs.declared.edge.Edge.{Edge}
 use Rattle.contour.specs.Walk.{ahead}
-use Rattle.chord.specs.Points.{Position}
 use Rattle.held.specs.Held.{each, vertex}
 use Rattle.simplify.specs.Runs.{stickAfter, following, between, chordPasses, passes, removeVertex}
 

@@ -1,12 +1,12 @@
 -- What trying a run does: it passes, or it is split. How many runs are tried and vertices removed, that counting may start from 0, that a
 -- depth beyond the number of edges changes nothing, and that the table keeps its length.
-use mathlib.Core.Path.{_≡_, refl, sym, _∙_, ap, subst}
+use mathlib.Core.Path.{_≡_, refl, sym, _∙_, ap}
 use mathlib.Core.Bool.{Bool, true, false, true≢false}
 use mathlib.Core.List.{List, [], _∷_, foldl}
-use Prim.Native.Nat.{ℕ, zero, suc, _+_, _-_, _*_, _/_, _≤_, _<_}
+use Prim.Native.Nat.{ℕ, zero, suc, _+_, _-_, _*_, _≤_, _<_}
 use native.Mathlib.Decide.{decLe}
 use native.Mathlib.Omega.{arith}
-use lib.ListN.{length, set, length-set}
+use lib.ListN.{length, length-set}
 use Rattle.arith.specs.Booleans.{both-sides}
 use Rattle.grid.specs.Layer.{Layer}
 use Rattle.grid.specs.Edges.{number}
@@ -228,9 +228,10 @@ module _ (L : Layer) (tolerance : ℕ) where
   run-split t e m n h f at-h at-m p q at-p at-q =
       let s = split L t tolerance e n f in
       let depth : suc (n - 1) ≡ n = omega (arith, s) in
+      let at-half : m ≡ stickAfter L (half n) e = at-m ∙ ap (λ (k : ℕ). stickAfter L k e) at-h in
       (λ i. record { table = q .table; removed = none-more (p .removed) (q .removed) i; tried = one-more (p .tried) (q .tried) i })
       ∙ two-runs (n - 1) (oneTried (begun t)) e m h (n - h) (omega (arith, s)) (omega (arith, s)) (omega (arith, s)) (omega (arith, s)) p q at-p at-q
-      ∙ (λ i. tryRun L tolerance (n - 1) (tryRun L tolerance (n - 1) (oneTried (begun t)) e (at-h i)) ((at-m ∙ ap (λ (k : ℕ). stickAfter L k e) at-h) i) (n - at-h i))
+      ∙ (λ i. tryRun L tolerance (n - 1) (tryRun L tolerance (n - 1) (oneTried (begun t)) e (at-h i)) (at-half i) (n - at-h i))
       ∙ sym (try-splits (n - 1) (begun t) e n f)
       ∙ ap (λ (d : ℕ). tryRun L tolerance d (begun t) e n) depth
     where

@@ -1,7 +1,7 @@
 -- `simplify_contours` meets its contract. The invariant: simplifying the contours from here on, on top of what is done, simplifies the layer.
-use mathlib.Core.Path.{_≡_, refl, sym, ap, _∙_}
-use mathlib.Core.List.{List, foldl}
-use Prim.Native.Nat.{_+_, _-_}
+use mathlib.Core.Path.{_≡_, refl, ap, _∙_}
+use mathlib.Core.List.{foldl}
+use Prim.Native.Nat.{_+_, _-_, _≤_}
 use native.Mathlib.Omega.{arith}
 use borrow.Author.Needs.{needs}
 use lib.ListN.{length}
@@ -12,7 +12,7 @@ use Rattle.contour.specs.Contours.{walkOf}
 use Rattle.contour.specs.Sets.{nextIn}
 use Rattle.contour.proofs.Scans.{horizontal-fits}
 use Rattle.contour.proofs.FirstSets.{Stop, next-from, next-stop, stop-stick}
-use Rattle.simplify.specs.Runs.{Progress, simplifyContour, simplify}
+use Rattle.simplify.specs.Runs.{simplifyContour, simplify}
 use Rattle.simplify.specs.Parts.{begun, reached}
 use Rattle.simplify.proofs.Layers.{turns-start, turns, turned-most, turns-end}
 use Rattle.simplify.proofs.contours.simplify_contours.Statement.{statement}
@@ -62,71 +62,86 @@ simplify-contour-requires c κs =
     let stick = stop-stick L (given .0) (a .set .now) (given .1 .1) (loop .n) (loop .inv .0) below in
     (given .0, (loop .inv .1 ∙ given .1 .0, rw (c .edge-at .ensures) stick))
 
-add-removed : tie.Need-add-removed Inv-loop μ-loop
-add-removed c =
-    let a = c .before .before .before .before .before .before .before .before .before .before .before .before .args in
-    let given = c .before .before .before .before .before .before .before .before .before .before .before .before .pre in
+-- what is found of the contour that the loop is at
+found : (c : tie.After-simplify-contour Inv-loop μ-loop)
+    → let at-loop = c .before .before .before .before in
+    let a = at-loop .before .before .before .before .before .args in
     let L = layerOf (a .size) (a .bitmap .now) in
-    let loop = c .before .before .before .before .before .before .before .loop in
-    let one = c .before .before .before .simplify-contour in
-    let below = rw (c .before .before .before .before .before .before .before .before .before .kind-start .ensures) at (c .before .before .before .before .before .before .loop-test .taken) in
-    let found = one .ensures ∙ ap (simplifyContour L (a .t) (begun (loop .table))) (c .before .before .before .before .edge-at .ensures) in
-    let most = turned-most L (given .0) (a .t) (a .set .now) (given .1 .1) (a .table .now) (loop .n) (loop .inv .0) below _ _ found (loop .inv .2) in
-    record { fits = omega (arith, most) }
+    reached (c .simplify-contour .result) (c .simplify-contour .last .1 .1 .0)
+    ≡ simplifyContour L (a .t) (begun (at-loop .loop .table)) (edgeAt (a .size) (at-loop .loop .n))
+found c =
+    let at-loop = c .before .before .before .before in
+    let a = at-loop .before .before .before .before .before .args in
+    let L = layerOf (a .size) (a .bitmap .now) in
+    c .simplify-contour .ensures ∙ ap (simplifyContour L (a .t) (begun (at-loop .loop .table))) (c .before .edge-at .ensures)
+
+-- the counts stay small
+counts-small : (c : tie.After-simplify-contour Inv-loop μ-loop)
+    → let loop = c .before .before .before .before .loop in
+    (loop .removed + c .simplify-contour .result .removed ≤ 2095104) × (loop .tried + c .simplify-contour .result .tried ≤ 4190208)
+counts-small c =
+    let at-loop = c .before .before .before .before in
+    let start = at-loop .before .before .before .before .before in
+    let a = start .args in
+    let given = start .pre in
+    let L = layerOf (a .size) (a .bitmap .now) in
+    let loop = at-loop .loop in
+    let below = rw (at-loop .before .before .kind-start .ensures) at (c .before .before .before .loop-test .taken) in
+    turned-most L (given .0) (a .t) (a .set .now) (given .1 .1) (a .table .now) (loop .n) (loop .inv .0) below _ _ (found c) (loop .inv .2)
+
+add-removed : tie.Need-add-removed Inv-loop μ-loop
+add-removed c = record { fits = omega (arith, counts-small (c .before .before .before)) }
 
 add-tried : tie.Need-add-tried Inv-loop μ-loop
-add-tried c =
-    let a = c .before .before .before .before .before .before .before .before .before .before .before .before .before .args in
-    let given = c .before .before .before .before .before .before .before .before .before .before .before .before .before .pre in
-    let L = layerOf (a .size) (a .bitmap .now) in
-    let loop = c .before .before .before .before .before .before .before .before .loop in
-    let one = c .before .before .before .before .simplify-contour in
-    let below = rw (c .before .before .before .before .before .before .before .before .before .before .kind-start .ensures) at (c .before .before .before .before .before .before .before .loop-test .taken) in
-    let found = one .ensures ∙ ap (simplifyContour L (a .t) (begun (loop .table))) (c .before .before .before .before .before .edge-at .ensures) in
-    let most = turned-most L (given .0) (a .t) (a .set .now) (given .1 .1) (a .table .now) (loop .n) (loop .inv .0) below _ _ found (loop .inv .2) in
-    record { fits = omega (arith, most) }
+add-tried c = record { fits = omega (arith, counts-small (c .before .before .before .before)) }
 
 add-next-first : tie.Need-add-next-first Inv-loop μ-loop
 add-next-first c = search needs
 
 next-first-requires-2 : tie.Need-next-first-requires-2 Inv-loop μ-loop
 next-first-requires-2 c κs =
-    let start = c .before .before .before .before .before .before .before .before .before .before .before .before .before in (
+    let at-loop = c .before .before .before .before .before .before .before .before in
+    let start = at-loop .before .before .before .before .before in (
       start .pre .1 .1 .sized,
       (
         omega (arith, c .before .before .before .before .before .before .before .loop-test .taken),
-        rw (c .before .before .before .before .before .before .before .before .before .before .kind-start .ensures) (horizontal-fits (start .args .size) (start .pre .0 .whole .sized)),
+        rw (at-loop .before .before .kind-start .ensures) (horizontal-fits (start .args .size) (start .pre .0 .whole .sized)),
       ),
     )
 
 loop-less : tie.Need-loop-less Inv-loop μ-loop
 loop-less c =
-    let a = c .before .before .before .before .before .before .before .before .before .before .before .before .before .before .args in
-    let given = c .before .before .before .before .before .before .before .before .before .before .before .before .before .before .pre in
+    let turn = c .before .before .before .before .before .before .before .before in
+    let at-loop = turn .before in
+    let start = at-loop .before .before .before .before .before in
+    let a = start .args in
+    let given = start .pre in
     let L = layerOf (a .size) (a .bitmap .now) in
     let s = a .set .now in
-    let loop = c .before .before .before .before .before .before .before .before .before .loop in
+    let loop = at-loop .loop in
     let after = c .next-first2 in
-    let less = c .before .before .before .before .before .before .before .before .loop-test .taken in
-    let below = rw (c .before .before .before .before .before .before .before .before .before .before .before .kind-start .ensures) at less in
-    let e = after .ensures ∙ ap (nextIn s (loop .n + 1)) (c .before .before .before .before .before .before .before .before .before .before .before .kind-start .ensures) in
+    let less = turn .loop-test .taken in
+    let below = rw (at-loop .before .before .kind-start .ensures) at less in
+    let e = after .ensures ∙ ap (nextIn s (loop .n + 1)) (at-loop .before .before .kind-start .ensures) in
     omega (arith, next-from L (given .0) s (given .1 .1) (loop .n + 1) (after .result) (omega arith) e)
 
 loop-again : tie.Need-loop-again Inv-loop μ-loop
 loop-again c =
-    let a = c .before .before .before .before .before .before .before .before .before .before .before .before .before .before .args in
-    let given = c .before .before .before .before .before .before .before .before .before .before .before .before .before .before .pre in
+    let done = c .before .before .before .before .before in
+    let at-loop = done .before .before .before .before in
+    let start = at-loop .before .before .before .before .before in
+    let a = start .args in
+    let given = start .pre in
     let L = layerOf (a .size) (a .bitmap .now) in
     let s = a .set .now in
-    let loop = c .before .before .before .before .before .before .before .before .before .loop in
-    let one = c .before .before .before .before .before .simplify-contour in
+    let loop = at-loop .loop in
     let after = c .next-first2 in
-    let below = rw (c .before .before .before .before .before .before .before .before .before .before .before .kind-start .ensures) at (c .before .before .before .before .before .before .before .before .loop-test .taken) in
-    let e = after .ensures ∙ ap (nextIn s (loop .n + 1)) (c .before .before .before .before .before .before .before .before .before .before .before .kind-start .ensures) in
-    let found = one .ensures ∙ ap (simplifyContour L (a .t) (begun (loop .table))) (c .before .before .before .before .before .before .edge-at .ensures) in (
+    let end = at-loop .before .before .kind-start .ensures in
+    let below = rw end at (done .before .before .before .loop-test .taken) in
+    let e = after .ensures ∙ ap (nextIn s (loop .n + 1)) end in (
       next-stop L (given .0) s (given .1 .1) (loop .n + 1) (after .result) (omega arith) e,
-      one .kept .1 .1 .0 ∙ loop .inv .1,
-      turns L (given .0) (a .t) s (given .1 .1) (a .table .now) (loop .n) (loop .inv .0) below _ _ found (loop .inv .2) (after .result) e,
+      done .simplify-contour .kept .1 .1 .0 ∙ loop .inv .1,
+      turns L (given .0) (a .t) s (given .1 .1) (a .table .now) (loop .n) (loop .inv .0) below _ _ (found done) (loop .inv .2) (after .result) e,
     )
 
 same-length : tie.Need-same-length Inv-loop μ-loop

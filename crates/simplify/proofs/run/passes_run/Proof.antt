@@ -1,13 +1,11 @@
 -- `passes_run` meets its contract. The invariant: the sticks that are left pass if all do.
-use mathlib.Core.Path.{_≡_, refl, sym, ap, _∙_}
+use mathlib.Core.Path.{_≡_, sym, _∙_}
 use mathlib.Core.Bool.{true}
 use borrow.Author.Needs.{needs}
 use borrow.Author.Tests.{not-true, not-false}
-use Rattle.grid.specs.Layer.{Layer, layerOf}
+use Rattle.grid.specs.Layer.{layerOf}
 use Rattle.grid.specs.Edges.{isStick}
-use Rattle.grid.specs.declared.edge.Edge.{Edge}
 use Rattle.grid.proofs.Walks.{next-stick}
-use Rattle.chord.specs.Points.{Position}
 use Rattle.contour.proofs.Orbit.{ahead-one}
 use Rattle.contour.proofs.Sticks.{laws, stick-in}
 use Rattle.contour.specs.Contours.{walkOf}
@@ -69,12 +67,13 @@ chord-passes-requires c κs =
 
 returns : tie.Need-returns Inv-loop μ-loop
 returns c =
-    let a = c .before .before .before .before .before .before .before .before .before .args in
+    let at-loop = c .before .before .before .before in
+    let a = at-loop .before .before .before .before .before .args in
     let L = layerOf (a .size) (a .bitmap .now) in
     let t = a .table .now in
-    let loop = c .before .before .before .before .loop in
+    let loop = at-loop .loop in
     let step = c .before .before .next-stick in
-    let test = chordPasses L t (a .t) (c .before .before .before .before .before .before .vertex-at .result) (c .before .before .before .before .before .vertex-at2 .result) in
+    let test = chordPasses L t (a .t) (at-loop .before .before .vertex-at .result) (at-loop .before .vertex-at2 .result) in
     let failed = sym (c .before .chord-passes .ensures) ∙ not-true _ (c .if1 .taken) in
     sym (each-failed L test (loop .left) (loop .at) (step .result) (c .before .before .before .loop-test .taken) (step .ensures) failed) ∙ loop .inv .1
 
@@ -86,12 +85,13 @@ loop-less c = search needs
 
 loop-again : tie.Need-loop-again Inv-loop μ-loop
 loop-again c =
-    let a = c .before .before .before .before .before .before .before .before .before .args in
+    let at-loop = c .before .before .before .before in
+    let a = at-loop .before .before .before .before .before .args in
     let L = layerOf (a .size) (a .bitmap .now) in
     let t = a .table .now in
-    let loop = c .before .before .before .before .loop in
+    let loop = at-loop .loop in
     let step = c .before .before .next-stick in
-    let test = chordPasses L t (a .t) (c .before .before .before .before .before .before .vertex-at .result) (c .before .before .before .before .before .vertex-at2 .result) in
+    let test = chordPasses L t (a .t) (at-loop .before .before .vertex-at .result) (at-loop .before .vertex-at2 .result) in
     let passed = sym (c .before .chord-passes .ensures) ∙ not-false _ (c .if1 .left) in (
       rw (step .ensures) (next-stick L (c .before .before .before .before .before .before .before .before .before .pre .0) (loop .at) (loop .inv .0)),
       sym (each-passed L test (loop .left) (loop .at) (step .result) (c .before .before .before .loop-test .taken) (step .ensures) passed) ∙ loop .inv .1,

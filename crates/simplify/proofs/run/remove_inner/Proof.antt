@@ -51,11 +51,12 @@ loop-again c =
     let L = layerOf (a .size) (a .bitmap .now) in
     let loop = c .before .before .before .before .before .before .loop in
     let step = c .before .before .before .before .next-stick in
+    let more = c .before .before .before .before .before .loop-test .taken in
     let done = c .before .before .remove-vertex in (
       rw (step .ensures) (next-stick L (c .before .before .before .before .before .before .before .before .before .pre .0) (loop .at) (loop .inv .0)),
       done .kept .1 .1 .0 ∙ loop .inv .1,
       ap (λ (t : List ℕ). foldl (removeVertex L) t (between L (step .result) (loop .left - 1))) (done .ensures)
-          ∙ sym (inner-more L (loop .left) (loop .at) (step .result) (loop .table) (c .before .before .before .before .before .loop-test .taken) (step .ensures))
+          ∙ sym (inner-more L (loop .left) (loop .at) (step .result) (loop .table) more (step .ensures))
           ∙ loop .inv .2,
     )
 

@@ -1,5 +1,5 @@
 -- `contour_length` meets its contract. The invariant: the sticks counted and those that are left are all of the contour's.
-use mathlib.Core.Path.{_≡_, refl, sym, ap, _∙_}
+use mathlib.Core.Path.{_≡_, sym, ap, _∙_}
 use Prim.Native.Nat.{_+_}
 use native.Mathlib.Omega.{arith}
 use borrow.Author.Needs.{needs}
@@ -52,7 +52,9 @@ loop-less c =
     let L = layerOf (a .size) (a .bitmap .now) in
     let loop = c .before .before .before .loop in
     let step = c .before .before .next-stick in
-    shorter (walkOf L) (laws L (c .before .before .before .before .before .pre .0)) (a .first) (loop .e) (step .result) (loop .inv .0) (step .ensures) (sym (c .before .same-edge .ensures) ∙ c .if1 .left)
+    let law = laws L (c .before .before .before .before .before .pre .0) in
+    let differ = sym (c .before .same-edge .ensures) ∙ c .if1 .left in
+    shorter (walkOf L) law (a .first) (loop .e) (step .result) (loop .inv .0) (step .ensures) differ
 
 loop-again : tie.Need-loop-again Inv-loop μ-loop
 loop-again c =
