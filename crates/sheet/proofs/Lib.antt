@@ -1,0 +1,15 @@
+-- What the crate's proofs cite: of writing (Bytes..) and of reading (Read..).
+pub mod BytesStored
+pub mod BytesWalk
+pub mod BytesCounted
+pub mod BytesAnswered
+pub mod BytesKept
+pub mod BytesExamples
+pub mod ReadPlaces
+pub mod ReadStands
+pub mod ReadBytes
+pub mod ReadWent
+pub mod ReadFill
+pub mod ReadHeld
+pub mod ReadTheorems
+pub mod ReadWritten

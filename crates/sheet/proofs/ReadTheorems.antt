@@ -1,0 +1,96 @@
+-- What reading a sheet leaves: the table that it describes, which is that of an accepted layer, or the table as found.
+use mathlib.Core.Path.{_≡_, refl, ap}
+use mathlib.Core.List.{List, [], _∷_, _++_}
+use Prim.Native.Nat.{ℕ, _<_}
+use native.Mathlib.Omega.{arith}
+use lib.ListN.{length, getD}
+use Rattle.grid.specs.Layer.{Layer}
+use Rattle.grid.specs.Edges.{edgeCount}
+use Rattle.grid.specs.Questions.{firstNo, numberOf, Sound}
+use Rattle.grid.specs.declared.question.Refusal.{Refusal}
+use Rattle.grid.specs.declared.question.Refusal.the-variants as Refusal
+use Rattle.grid.specs.declared.question.Answer.{Answer}
+use Rattle.grid.specs.declared.question.Answer.the-variants.{Yes, No}
+use Rattle.grid.proofs.Answers.{append-all, firstNo-yes}
+use Rattle.table.specs.Entries.{lengthQuestions}
+use Rattle.table.proofs.Lengths.{lengths-of}
+use Rattle.held.specs.Held.{heldAnswer}
+use Rattle.held.specs.Questions.{Accepted}
+use Rattle.sheet.specs.Reading.{sheetAnswer, described, Outcome, readOf}
+use Rattle.sheet.specs.Places.{answeredBy}
+use Rattle.sheet.proofs.ReadPlaces.{described-length}
+use Rattle.sheet.proofs.ReadStands.{described-entries}
+
+-- no question has the number 0
+number-above : (q : Refusal) → 0 < numberOf q
+number-above Refusal.BadSides = omega arith
+number-above Refusal.BitmapLength = omega arith
+number-above Refusal.SpareBits = omega arith
+number-above Refusal.BorderInside = omega arith
+number-above Refusal.TableLength = omega arith
+number-above Refusal.WrongEntry = omega arith
+number-above Refusal.NotHeld = omega arith
+number-above Refusal.Malformed = omega arith
+number-above Refusal.NoKeptVertex = omega arith
+number-above Refusal.BadOffset = omega arith
+number-above Refusal.NoCrossing = omega arith
+number-above Refusal.BeyondTolerance = omega arith
+number-above Refusal.TooFewKept = omega arith
+number-above Refusal.ShortOutput = omega arith
+number-above Refusal.SomeRemoved = omega arith
+
+-- what a sheet that is read has passed
+pub record Passes (L : Layer) (t s : List ℕ) : Type 0 where
+  pub sound : Sound L
+  pub exact : length t ≡ edgeCount (L .size)
+  pub formed : sheetAnswer L s ≡ Yes
+  pub held : heldAnswer L (described L s) ≡ Yes
+  pub left : readOf L t s .table ≡ described L s
+
+module _ (L : Layer) (t s : List ℕ) where
+  answers : List Answer
+  answers = lengthQuestions L (length t) ++ (sheetAnswer L s ∷ heldAnswer L (described L s) ∷ [])
+
+  answer-is : (answer : Answer) → firstNo answers ≡ answer → readOf L t s ≡ answeredBy L t s answer
+  unfolding readOf answers
+  answer-is answer e = ap (answeredBy L t s) e
+
+  -- A sheet that is read has passed its questions, and the table at exit is the one that it describes.
+  pub read-passes : readOf L t s .refusal ≡ 0 → Passes L t s
+  unfolding answers
+  read-passes done = go (firstNo answers) refl
+    where
+      go : (answer : Answer) → firstNo answers ≡ answer → Passes L t s
+      go Yes e =
+          let both = append-all (lengthQuestions L (length t)) (sheetAnswer L s ∷ heldAnswer L (described L s) ∷ []) e in
+          let lengths = lengths-of L (length t) (both .0) in
+          let eight = firstNo-yes (sheetAnswer L s) (heldAnswer L (described L s) ∷ []) (both .1) in
+          let seven = firstNo-yes (heldAnswer L (described L s)) [] (eight .1) in
+          record {
+            sound = lengths .0;
+            exact = lengths .1;
+            formed = eight .0;
+            held = seven .0;
+            left = ap (λ (o : Outcome). o .table) (answer-is Yes e);
+          }
+      go (No q place) e = absurd (omega (arith, number-above q, done, ap (λ (o : Outcome). o .refusal) (answer-is (No q place) e)))
+
+  -- It leaves an accepted layer: of a sheet of bytes.
+  pub read-held : ((k : ℕ) → getD s k 0 < 256) → readOf L t s .refusal ≡ 0 → Accepted L (readOf L t s .table)
+  read-held bytes done =
+      let p = read-passes done in
+      rw (p .left) (record {
+        sound = p .sound;
+        exact = described-length L s;
+        entries = described-entries L s bytes (p .sound) (p .formed);
+        held = p .held;
+      })
+
+  -- A refusal leaves the table as found.
+  pub read-refused : (readOf L t s .refusal ≡ 0 → ⊥) → readOf L t s .table ≡ t
+  unfolding answers
+  read-refused refused = go (firstNo answers) refl
+    where
+      go : (answer : Answer) → firstNo answers ≡ answer → readOf L t s .table ≡ t
+      go Yes e = absurd (refused (ap (λ (o : Outcome). o .refusal) (answer-is Yes e)))
+      go (No q place) e = ap (λ (o : Outcome). o .table) (answer-is (No q place) e)

@@ -1,0 +1,45 @@
+-- `write_sheet` meets its contract.
+use mathlib.Core.Path.{sym, _∙_}
+use borrow.Author.Needs.{needs}
+use Rattle.grid.specs.Layer.{layerOf, sizeOf}
+use Rattle.sheet.proofs.BytesAnswered.{written-no}
+use Rattle.sheet.proofs.write.write_sheet.Statement.{statement}
+use Rattle.sheet.proofs.write.write_sheet.Tie as tie
+
+ask-layer-held-requires : tie.Need-ask-layer-held-requires
+ask-layer-held-requires c κs = search needs
+
+enum-told : tie.Need-enum-told
+enum-told c = search needs
+
+write-held-requires : tie.Need-write-held-requires
+write-held-requires c κs = sym (c .before .before .before .ask-layer-held .ensures) ∙ c .before .enum-told .given .1
+
+enum-known-answer : tie.Need-enum-known-answer
+enum-known-answer c = search needs
+
+same-length : tie.Need-same-length
+same-length c = search needs
+
+returns : tie.Need-returns
+returns c = search needs
+
+returns-2 : tie.Need-returns-2
+returns-2 c =
+    let answer = c .before .answer in
+    let a = c .before .before .before .before .before .before .before .args in
+    let L = layerOf (sizeOf (a .w) (a .h)) (a .bitmap .now) in
+    sym (written-no L (a .table .now) (a .sheet .now) (answer .given .0 .0) (answer .given .0 .1 .0)
+    (sym (c .before .before .before .ask-layer-held .ensures) ∙ answer .given .1))
+
+pub write-sheet-spec : {M : Type 1} → statement M
+write-sheet-spec =
+    tie.close
+    (tie.spec
+    ask-layer-held-requires
+    enum-told
+    write-held-requires
+    enum-known-answer
+    same-length
+    returns
+    returns-2)

@@ -1,0 +1,115 @@
+// The commands of a sheet: whether one stands at a place, whole, and the entry that a vertex command gives its stick.
+use grid::Edge;
+use grid::Size;
+ghost use mathlib.Core.Path.{_≡_};
+ghost use mathlib.Core.Bool.{cond};
+ghost use Prim.Native.Nat.{_+_, _≤_, _<_};
+ghost use lib.ListN.{length};
+ghost use Rattle.sheet.specs.Commands.{bytesOf, kindOf, sizeCommand, contourCommand, endCommand};
+ghost use Rattle.sheet.specs.Reading.{standsAt, entryFrom};
+ghost use Rattle.sheet.specs.Places.{vertexAt};
+
+fn widen(x: u8) -> usize
+    ensures { λ r. ⌜ r ≡ x ⌝ }
+{
+    x as usize
+}
+
+fn kind_of(vertical: bool) -> usize
+    ensures { λ r. ⌜ r ≡ kindOf vertical ⌝ }
+{
+    if vertical { 1 } else { 0 }
+}
+
+// Whether the two bytes at i are n, low byte first.
+fn has_number(sheet: &[u8], i: usize, n: usize) -> bool
+    requires { ⌜ i + 2 ≤ length (now sheet) ⌝ }
+    ensures { λ r. ⌜ r ≡ standsAt (now (sheet .entry)) i (bytesOf n) ⌝ }
+{
+    if widen(sheet[i]) != n % 256 {
+        return false;
+    }
+    widen(sheet[i + 1]) == n / 256 % 256
+}
+
+// Whether the sheet begins with the size.
+pub fn has_size(sheet: &[u8], size: Size) -> bool
+    ensures { λ r. ⌜ r ≡ standsAt (now (sheet .entry)) 0 (sizeCommand size) ⌝ }
+{
+    if sheet.len() < 5 {
+        return false;
+    }
+    if widen(sheet[0]) != 0x4C {
+        return false;
+    }
+    if !has_number(sheet, 1, size.width) {
+        return false;
+    }
+    has_number(sheet, 3, size.height)
+}
+
+// Whether the command that begins the contour of f stands at i.
+pub fn has_contour(sheet: &[u8], i: usize, f: Edge) -> bool
+    requires { ⌜ i ≤ length (now sheet) ⌝ }
+    ensures { λ r. ⌜ r ≡ standsAt (now (sheet .entry)) i (contourCommand f) ⌝ }
+{
+    if sheet.len() - i < 6 {
+        return false;
+    }
+    if widen(sheet[i]) != 0x43 {
+        return false;
+    }
+    if widen(sheet[i + 1]) != kind_of(f.vertical) {
+        return false;
+    }
+    if !has_number(sheet, i + 2, f.column) {
+        return false;
+    }
+    has_number(sheet, i + 4, f.row)
+}
+
+// Whether a vertex command stands at i: K or R, and an offset that is not 0.
+pub fn has_vertex(sheet: &[u8], i: usize) -> bool
+    requires { ⌜ i ≤ length (now sheet) ⌝ }
+    ensures { λ r. ⌜ r ≡ vertexAt (now (sheet .entry)) i ⌝ }
+{
+    if sheet.len() - i < 2 {
+        return false;
+    }
+    let letter = widen(sheet[i]);
+    if letter != 0x4B {
+        if letter != 0x52 {
+            return false;
+        }
+    }
+    0 < widen(sheet[i + 1])
+}
+
+// Whether E stands at i.
+pub fn has_end(sheet: &[u8], i: usize) -> bool
+    requires { ⌜ i ≤ length (now sheet) ⌝ }
+    ensures { λ r. ⌜ r ≡ standsAt (now (sheet .entry)) i endCommand ⌝ }
+{
+    if i == sheet.len() {
+        return false;
+    }
+    widen(sheet[i]) == 0x45
+}
+
+fn entry_of_offset(offset: u8, removed: bool) -> u16
+    ensures { λ r. ⌜ r ≡ cond removed (256 + offset) offset ⌝ }
+{
+    if removed {
+        256 + (offset as u16)
+    } else {
+        offset as u16
+    }
+}
+
+// The entry that the vertex command at i gives its stick.
+pub fn entry_from(sheet: &[u8], i: usize) -> u16
+    requires { ⌜ i + 2 ≤ length (now sheet) ⌝ }
+    ensures { λ r. ⌜ r ≡ entryFrom (now (sheet .entry)) i ⌝ }
+{
+    entry_of_offset(sheet[i + 1], sheet[i] == 0x52)
+}
