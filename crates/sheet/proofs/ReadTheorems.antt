@@ -2,16 +2,15 @@
 use mathlib.Core.Path.{_≡_, refl, ap}
 use mathlib.Core.List.{List, [], _∷_, _++_}
 use Prim.Native.Nat.{ℕ, _<_}
+use native.Mathlib.Decide.{ℕ-discrete}
 use native.Mathlib.Omega.{arith}
 use lib.ListN.{length, getD}
 use Rattle.grid.specs.Layer.{Layer}
 use Rattle.grid.specs.Edges.{edgeCount}
-use Rattle.grid.specs.Questions.{firstNo, numberOf, Sound}
-use Rattle.grid.specs.declared.question.Refusal.{Refusal}
-use Rattle.grid.specs.declared.question.Refusal.the-variants as Refusal
+use Rattle.grid.specs.Questions.{firstNo, Sound}
 use Rattle.grid.specs.declared.question.Answer.{Answer}
 use Rattle.grid.specs.declared.question.Answer.the-variants.{Yes, No}
-use Rattle.grid.proofs.Answers.{append-all, firstNo-yes}
+use Rattle.grid.proofs.Answers.{number-some, append-all, firstNo-yes}
 use Rattle.table.specs.Entries.{lengthQuestions}
 use Rattle.table.proofs.Lengths.{lengths-of}
 use Rattle.held.specs.Held.{heldAnswer}
@@ -20,24 +19,6 @@ use Rattle.sheet.specs.Reading.{sheetAnswer, described, Outcome, readOf}
 use Rattle.sheet.specs.Places.{answeredBy}
 use Rattle.sheet.proofs.ReadPlaces.{described-length}
 use Rattle.sheet.proofs.ReadStands.{described-entries}
-
--- no question has the number 0
-number-above : (q : Refusal) → 0 < numberOf q
-number-above Refusal.BadSides = omega arith
-number-above Refusal.BitmapLength = omega arith
-number-above Refusal.SpareBits = omega arith
-number-above Refusal.BorderInside = omega arith
-number-above Refusal.TableLength = omega arith
-number-above Refusal.WrongEntry = omega arith
-number-above Refusal.NotHeld = omega arith
-number-above Refusal.Malformed = omega arith
-number-above Refusal.NoKeptVertex = omega arith
-number-above Refusal.BadOffset = omega arith
-number-above Refusal.NoCrossing = omega arith
-number-above Refusal.BeyondTolerance = omega arith
-number-above Refusal.TooFewKept = omega arith
-number-above Refusal.ShortOutput = omega arith
-number-above Refusal.SomeRemoved = omega arith
 
 -- what a sheet that is read has passed
 pub record Passes (L : Layer) (t s : List ℕ) : Type 0 where
@@ -73,7 +54,7 @@ module _ (L : Layer) (t s : List ℕ) where
             held = seven .0;
             left = ap (λ (o : Outcome). o .table) (answer-is Yes e);
           }
-      go (No q place) e = absurd (omega (arith, number-above q, done, ap (λ (o : Outcome). o .refusal) (answer-is (No q place) e)))
+      go (No q place) e = absurd (omega (arith, number-some q, done, ap (λ (o : Outcome). o .refusal) (answer-is (No q place) e)))
 
   -- It leaves an accepted layer: of a sheet of bytes.
   pub read-held : ((k : ℕ) → getD s k 0 < 256) → readOf L t s .refusal ≡ 0 → Accepted L (readOf L t s .table)
@@ -94,3 +75,10 @@ module _ (L : Layer) (t s : List ℕ) where
       go : (answer : Answer) → firstNo answers ≡ answer → readOf L t s .table ≡ t
       go Yes e = absurd (refused (ap (λ (o : Outcome). o .refusal) (answer-is Yes e)))
       go (No q place) e = ap (λ (o : Outcome). o .table) (answer-is (No q place) e)
+
+  -- So, whatever the answer is, an accepted layer stays one.
+  pub read-keeps : ((k : ℕ) → getD s k 0 < 256) → Accepted L t → Accepted L (readOf L t s .table)
+  read-keeps bytes accepted = elim (ℕ-discrete (readOf L t s .refusal) 0) [
+    | yes done ↦ read-held bytes done
+    | no refused ↦ rw (read-refused refused) accepted
+  ]
