@@ -1,2 +1,43 @@
+//! The command line `puzhenim`: files in, files out, and words for refusals. Every rule is the proved library's.
+
 #![forbid(unsafe_code)]
-fn main() {}
+
+mod args;
+mod commands;
+mod failure;
+mod files;
+mod help;
+mod input;
+mod pbm;
+mod picture;
+mod progress;
+
+use failure::Failure;
+use std::ffi::OsString;
+use std::process::ExitCode;
+
+fn run(mut words: impl Iterator<Item = OsString>) -> Result<(), Failure> {
+    let first = words.next().ok_or_else(|| Failure::Usage("no command is given".into()))?;
+    let name = first.to_string_lossy();
+    match name.as_ref() {
+        "-h" | "--help" | "help" => help::show(words.next()),
+        "-V" | "--version" => files::say(concat!("puzhenim ", env!("CARGO_PKG_VERSION"), "\n")),
+        _ => {
+            let command = commands::named(&name)?;
+            match args::parse(command, words)? {
+                Some(args) => (command.run)(&args),
+                None => files::say(command.help),
+            }
+        }
+    }
+}
+
+fn main() -> ExitCode {
+    match run(std::env::args_os().skip(1)) {
+        Ok(()) => ExitCode::SUCCESS,
+        Err(failure) => {
+            eprintln!("puzhenim: {}", failure);
+            ExitCode::from(failure.status())
+        }
+    }
+}

@@ -1,0 +1,217 @@
+//! The commands: each reads its files, calls the library and writes its outputs.
+
+use crate::args::Args;
+use crate::failure::Failure;
+use crate::files;
+use crate::help;
+use crate::input::Input;
+use crate::picture;
+use crate::progress::Progress;
+use puzhenim::{Item, Layer, List, Refusal, Vertex};
+use std::ffi::OsStr;
+use std::fmt::Write;
+use std::path::Path;
+
+/// An option of a command.
+pub struct Opt {
+    pub name: &'static str,
+    pub has_value: bool,
+}
+
+/// A command; an operand in brackets may be left out.
+pub struct Command {
+    pub name: &'static str,
+    pub operands: &'static [&'static str],
+    pub options: &'static [Opt],
+    pub help: &'static str,
+    pub run: fn(&Args) -> Result<(), Failure>,
+}
+
+const OUTPUT: Opt = Opt { name: "-o", has_value: true };
+const PASSES: Opt = Opt { name: "--passes", has_value: true };
+const TOLERANCE: Opt = Opt { name: "--tolerance", has_value: true };
+const BINARY: Opt = Opt { name: "--binary", has_value: true };
+const PAD: Opt = Opt { name: "--pad", has_value: false };
+
+const DEFAULT_PASSES: u16 = 100;
+const DEFAULT_TOLERANCE: u8 = 64;
+
+static COMMANDS: [Command; 5] = [
+    Command { name: "slice", operands: &["IN"], options: &[OUTPUT, PASSES, TOLERANCE, PAD], help: help::SLICE, run: slice },
+    Command { name: "roll", operands: &["IN", "SHEET", "ROLL"], options: &[OUTPUT, TOLERANCE, PAD], help: help::ROLL, run: roll },
+    Command { name: "plan", operands: &["IN", "SHEET"], options: &[OUTPUT, BINARY, PAD], help: help::PLAN, run: plan },
+    Command { name: "check", operands: &["IN", "SHEET"], options: &[PAD], help: help::CHECK, run: check },
+    Command { name: "draw", operands: &["IN", "[SHEET]"], options: &[OUTPUT, PAD], help: help::DRAW, run: draw },
+];
+
+pub fn named(name: &str) -> Result<&'static Command, Failure> {
+    COMMANDS.iter().find(|command| command.name == name).ok_or_else(|| Failure::Usage(format!("there is no command {}", name)))
+}
+
+fn slice(args: &Args) -> Result<(), Failure> {
+    let output = args.required("-o")?;
+    let passes = args.number("--passes", u16::MAX, DEFAULT_PASSES)?;
+    let tolerance = args.number("--tolerance", u8::MAX, DEFAULT_TOLERANCE)?;
+    let (progress, job) = (Progress::start(), Job::open(args)?);
+    let mut table = job.layer().new_table();
+    let refused = |refusal| job.refused(refusal);
+    progress.step("tracing");
+    job.layer().trace(&mut table).map_err(refused)?;
+    progress.step("smoothing");
+    let smoothed = job.layer().smooth(&mut table, passes).map_err(refused)?;
+    progress.step("simplifying");
+    let simplified = job.layer().simplify(&mut table, tolerance).map_err(refused)?;
+    progress.step("writing");
+    let sheet = job.layer().sheet(&table).map_err(refused)?;
+    files::write(&[(output, &sheet)])?;
+    drop(progress);
+    let settled = if smoothed.settled { "settled" } else { "not settled" };
+    report(output, &format!("{} passes, {}; {} vertices removed\n", smoothed.passes, settled, simplified.removed))
+}
+
+fn roll(args: &Args) -> Result<(), Failure> {
+    let output = args.required("-o")?;
+    let tolerance = args.number("--tolerance", u8::MAX, DEFAULT_TOLERANCE)?;
+    let (progress, job) = (Progress::start(), Job::open(args)?);
+    let mut table = job.read_sheet(&progress)?;
+    let path = job.operand(2);
+    let roll = files::read(path)?;
+    progress.step("running the roll");
+    let done = job.layer().roll(&mut table, &roll, tolerance).map_err(|refusal| roll_refused(path, refusal))?;
+    progress.step("writing");
+    let sheet = job.layer().sheet(&table).map_err(|refusal| job.refused(refusal))?;
+    files::write(&[(output, &sheet)])?;
+    drop(progress);
+    report(output, &format!("{} commands done\n", done))
+}
+
+fn roll_refused(path: &OsStr, refusal: Refusal) -> Failure {
+    match refusal.done() {
+        Some(done) => Failure::of(path, format_args!("{}\n{} commands before it passed; nothing is written.", refusal, done)),
+        None => Failure::of(path, refusal),
+    }
+}
+
+fn plan(args: &Args) -> Result<(), Failure> {
+    let output = args.required("-o")?;
+    let (progress, job) = (Progress::start(), Job::open(args)?);
+    let table = job.read_sheet(&progress)?;
+    progress.step("planning");
+    let list = job.layer().list(&table).map_err(|refusal| job.refused(refusal))?;
+    progress.step("writing");
+    match args.option("--binary") {
+        None => files::write(&[(output, as_text(&list).as_bytes())]),
+        Some(points) if points == output => Err(Failure::Usage("plan wants two different files with --binary".into())),
+        Some(points) => {
+            let floats: Vec<u8> = list.points.iter().flat_map(|float| float.to_le_bytes()).collect();
+            files::write(&[(output, &list.items), (points, &floats)])
+        }
+    }
+}
+
+/// A line an item. A coordinate is a whole number of 1/256ths of at most 12 digits, so its shortest decimal is exact.
+fn as_text(list: &List) -> String {
+    let mut text = String::new();
+    for item in list.iter() {
+        let written = match item {
+            Item::Move { x, y } => writeln!(text, "M {} {}", x, y),
+            Item::Line { x, y } => writeln!(text, "l {} {}", x, y),
+            Item::Close => writeln!(text, "Z"),
+        };
+        written.expect("a string takes all");
+    }
+    text
+}
+
+fn check(args: &Args) -> Result<(), Failure> {
+    let (progress, job) = (Progress::start(), Job::open(args)?);
+    let table = job.read_sheet(&progress)?;
+    progress.step("counting");
+    let counts = job.layer().counts(&table).map_err(|refusal| job.refused(refusal))?;
+    drop(progress);
+    let (kept, removed) = vertices(&table);
+    let figures = [
+        ("inside samples", counts.inside),
+        ("sticks", counts.sticks),
+        ("contours", counts.contours),
+        ("kept vertices", kept),
+        ("removed vertices", removed),
+    ];
+    let mut text = format!("The sheet is good for this layer of {} × {} samples.\n", job.layer().width, job.layer().height);
+    for (name, figure) in figures {
+        text += &format!("{:<17}{:>8}\n", name, figure);
+    }
+    files::say(&text)
+}
+
+/// How many vertices are kept and how many removed.
+fn vertices(table: &[u16]) -> (u64, u64) {
+    table.iter().fold((0, 0), |(kept, removed), entry| match Vertex::of(*entry) {
+        Some(Vertex::Kept(_)) => (kept + 1, removed),
+        Some(Vertex::Removed(_)) => (kept, removed + 1),
+        None => (kept, removed),
+    })
+}
+
+fn draw(args: &Args) -> Result<(), Failure> {
+    let output = args.required("-o")?;
+    let (progress, job) = (Progress::start(), Job::open(args)?);
+    let table = match args.operand(1) {
+        Some(_) => job.read_sheet(&progress)?,
+        None => {
+            let mut table = job.layer().new_table();
+            job.layer().trace(&mut table).map_err(|refusal| job.refused(refusal))?;
+            table
+        }
+    };
+    progress.step("drawing");
+    let name = Path::new(job.operand(0)).file_name().unwrap_or_default().to_string_lossy();
+    let picture = picture::draw(&name, job.layer(), &table).map_err(|refusal| job.refused(refusal))?;
+    files::write(&[(output, picture.as_bytes())])
+}
+
+/// Figures of a run, unless standard output is where its output goes.
+fn report(output: &OsStr, text: &str) -> Result<(), Failure> {
+    if output == "-" {
+        return Ok(());
+    }
+    files::say(text)
+}
+
+/// A command's operands, with the layer read.
+struct Job<'a> {
+    args: &'a Args,
+    input: Input,
+}
+
+impl<'a> Job<'a> {
+    fn open(args: &'a Args) -> Result<Job<'a>, Failure> {
+        let path = args.operand(0).unwrap_or_default();
+        Ok(Job { args, input: Input::read(path, args.option("--pad").is_some())? })
+    }
+
+    /// An operand that the command always has.
+    fn operand(&self, index: usize) -> &'a OsStr {
+        self.args.operand(index).unwrap_or_default()
+    }
+
+    fn layer(&self) -> Layer<'_> {
+        self.input.layer()
+    }
+
+    fn refused(&self, refusal: Refusal) -> Failure {
+        Failure::refused(self.operand(0), self.layer(), refusal)
+    }
+
+    /// The table of the sheet that is the second operand.
+    fn read_sheet(&self, progress: &Progress) -> Result<Vec<u16>, Failure> {
+        let path = self.operand(1);
+        let sheet = files::read(path)?;
+        progress.step("reading the sheet");
+        let mut table = self.layer().new_table();
+        match self.layer().read_sheet(&mut table, &sheet) {
+            Ok(()) => Ok(table),
+            Err(refusal) => Err(Failure::refused(path, self.layer(), refusal)),
+        }
+    }
+}

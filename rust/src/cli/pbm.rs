@@ -1,0 +1,106 @@
+//! Portable bitmaps, P1 (plain) and P4 (raw).
+
+/// A picture, top row first, a row in whole bytes, the leftmost sample in the highest bit; 1 is black.
+pub struct Picture {
+    pub width: usize,
+    pub height: usize,
+    rows: Vec<u8>,
+}
+
+impl Picture {
+    pub fn is_black(&self, column: usize, row: usize) -> bool {
+        self.rows[row * stride(self.width) + column / 8] >> (7 - column % 8) & 1 == 1
+    }
+}
+
+fn stride(width: usize) -> usize {
+    (width + 7) / 8
+}
+
+pub fn is_pbm(bytes: &[u8]) -> bool {
+    bytes.starts_with(b"P1") || bytes.starts_with(b"P4")
+}
+
+/// The one picture of a file, or what is wrong with it.
+pub fn read(bytes: &[u8]) -> Result<Picture, String> {
+    let mut source = Source { bytes, at: 2 };
+    let (width, height) = (source.side("width")?, source.side("height")?);
+    let rows = if bytes.starts_with(b"P1") { source.plain(width, height)? } else { source.raw(width, height)? };
+    match source.token() {
+        Some(_) => Err(format!("more follows the picture, at byte {}", source.at - 1)),
+        None => Ok(Picture { width, height, rows }),
+    }
+}
+
+struct Source<'a> {
+    bytes: &'a [u8],
+    at: usize,
+}
+
+impl Source<'_> {
+    /// The next byte, a comment read as the end of its line.
+    fn next(&mut self) -> Option<u8> {
+        let rest = &self.bytes[self.at..];
+        let length = match rest.first()? {
+            b'#' => rest.iter().position(|byte| *byte == b'\n' || *byte == b'\r').map_or(rest.len(), |end| end + 1),
+            _ => 1,
+        };
+        self.at += length;
+        Some(if rest[0] == b'#' { b'\n' } else { rest[0] })
+    }
+
+    /// The next byte that is no blank.
+    fn token(&mut self) -> Option<u8> {
+        loop {
+            match self.next() {
+                Some(byte) if byte.is_ascii_whitespace() => {}
+                other => return other,
+            }
+        }
+    }
+
+    /// A number of the head and the one blank after it.
+    fn side(&mut self, name: &str) -> Result<usize, String> {
+        let wrong = || format!("the picture's {} is no number of at least 1", name);
+        let mut side: usize = 0;
+        let mut byte = self.token();
+        while let Some(digit @ b'0'..=b'9') = byte {
+            side = side.checked_mul(10).and_then(|tens| tens.checked_add(usize::from(digit - b'0'))).ok_or_else(wrong)?;
+            byte = self.next();
+        }
+        match byte {
+            Some(blank) if blank.is_ascii_whitespace() && side > 0 => Ok(side),
+            _ => Err(wrong()),
+        }
+    }
+
+    /// How many bytes the rows have, if at least so many bytes of the file are left.
+    fn room(&self, width: usize, height: usize, bytes_a_row: usize) -> Result<usize, String> {
+        match height.checked_mul(bytes_a_row) {
+            Some(wanted) if wanted <= self.bytes.len() - self.at => Ok(height * stride(width)),
+            _ => Err(format!("the picture is cut short: it should have {} rows of {} samples", height, width)),
+        }
+    }
+
+    fn plain(&mut self, width: usize, height: usize) -> Result<Vec<u8>, String> {
+        let mut rows = vec![0; self.room(width, height, width)?];
+        for row in rows.chunks_exact_mut(stride(width)) {
+            for column in 0..width {
+                match self.token() {
+                    Some(b'0') => {}
+                    Some(b'1') => row[column / 8] |= 128 >> (column % 8),
+                    Some(_) => return Err(format!("a sample is neither 0 nor 1, at byte {}", self.at - 1)),
+                    None => return Err(format!("the picture is cut short: it should have {} rows of {} samples", height, width)),
+                }
+            }
+        }
+        Ok(rows)
+    }
+
+    fn raw(&mut self, width: usize, height: usize) -> Result<Vec<u8>, String> {
+        let end = self.at + self.room(width, height, stride(width))?;
+        let rows = self.bytes[self.at..end].to_vec();
+        self.at = end;
+        Ok(rows)
+    }
+}

@@ -1,0 +1,34 @@
+//! The layer and its contours as SVG. Shapes are in whole 1/256ths of the pitch, so that they are exact; one transform scales them.
+
+mod frame;
+mod legend;
+mod shapes;
+
+use frame::Frame;
+use legend::Legend;
+use puzhenim::{Layer, Refusal};
+use shapes::Shapes;
+
+/// The picture, under this name.
+pub fn draw(name: &str, layer: Layer, table: &[u16]) -> Result<String, Refusal> {
+    let shapes = Shapes::of(layer, table)?;
+    let frame = Frame::of(layer);
+    let counts = layer.counts(table)?;
+    let figures = format!(
+        "{} × {} samples, {} inside; {}, {}; {} vertices kept, {} removed",
+        layer.width,
+        layer.height,
+        counts.inside,
+        counted(shapes.outlines, "outline"),
+        counted(shapes.bores, "bore"),
+        shapes.kept(),
+        shapes.removed.len()
+    );
+    let legend = Legend::of(&frame, &shapes);
+    let body = shapes.draw(layer, &frame)?;
+    Ok(frame.page(name, &figures, &body, &legend))
+}
+
+fn counted(count: usize, name: &str) -> String {
+    format!("{} {}{}", count, name, if count == 1 { "" } else { "s" })
+}

@@ -1,0 +1,124 @@
+//! The page: how large a sample is drawn, what is marked, and where the parts stand.
+
+use super::legend::Legend;
+use puzhenim::Layer;
+
+/// The grid's longer side in pixels, where a sample's pitch stays within its bounds.
+const SIDE: f64 = 960.0;
+const FINEST: f64 = 2.0;
+const COARSEST: f64 = 64.0;
+
+/// The pitch in pixels from which on samples, and vertices, are marked.
+const SAMPLES_FROM: f64 = 8.0;
+const VERTICES_FROM: f64 = 4.0;
+
+const MARGIN: f64 = 16.0;
+const HEAD: f64 = 66.0;
+/// What the line of figures needs.
+const LEAST_WIDTH: f64 = 660.0;
+
+const STYLE: &str = "\
+text{font-family:sans-serif;font-size:13px;fill:#333}
+.name{font-size:17px;font-weight:bold}
+.grid{fill:#fff;stroke:#ddd}
+.outline{fill:#e3ebf4;stroke:#1b5e9e;stroke-linejoin:round}
+.bore{fill:#fff;stroke:#c8501e;stroke-linejoin:round}
+.dot{fill:none;stroke-linecap:round}
+.in{stroke:#7d92a8}
+.out{stroke:#d3d3d3}
+.kept-outline{stroke:#1b5e9e}
+.kept-bore{stroke:#c8501e}
+.removed{stroke:#8a3fb0;stroke-opacity:.55}
+";
+
+pub struct Frame {
+    columns: f64,
+    rows: f64,
+    /// The pitch in pixels.
+    scale: f64,
+    /// What the texts are enlarged by, so that they can be read where the whole picture is seen.
+    unit: f64,
+}
+
+impl Frame {
+    pub fn of(layer: Layer) -> Frame {
+        let (columns, rows) = (f64::from(layer.width), f64::from(layer.height));
+        let longer = columns.max(rows);
+        let scale = (SIDE / longer).clamp(FINEST, COARSEST);
+        Frame { columns, rows, scale, unit: (longer * scale / SIDE).max(1.0) }
+    }
+
+    pub fn marks_samples(&self) -> bool {
+        self.scale >= SAMPLES_FROM
+    }
+
+    pub fn marks_vertices(&self) -> bool {
+        self.scale >= VERTICES_FROM
+    }
+
+    /// How wide a contour's line is, in pixels.
+    pub fn line(&self) -> f64 {
+        (self.scale / 8.0).clamp(1.2, 2.4)
+    }
+
+    /// How wide a mark is, in pixels, that is so wide where the pitch is 16.
+    pub fn mark(&self, pixels: f64) -> f64 {
+        (self.scale / 16.0).min(1.5) * pixels
+    }
+
+    /// Pixels in 1/256ths of the pitch.
+    pub fn pen(&self, pixels: f64) -> f64 {
+        round(pixels * 256.0 / self.scale)
+    }
+
+    /// How wide the page is before the enlargement.
+    pub fn width(&self) -> f64 {
+        (self.columns * self.scale / self.unit).max(LEAST_WIDTH) + 2.0 * MARGIN
+    }
+
+    /// The whole picture. Lengths outside the grid are multiplied by the unit.
+    pub fn page(&self, name: &str, figures: &str, shapes: &str, legend: &Legend) -> String {
+        let (across, up) = (self.columns * self.scale / self.unit, self.rows * self.scale / self.unit);
+        let (width, height) = (self.width(), HEAD + up + legend.height() + MARGIN);
+        let left = (width - across) / 2.0;
+        let pitch = self.scale / self.unit;
+        // Sample (0, 0) is half a pitch from the grid's lower left corner; y grows upward.
+        let (x, y, fine) = (round(left + pitch / 2.0), round(HEAD + up - pitch / 2.0), pitch / 256.0);
+        format!(
+            "<svg xmlns=\"http://www.w3.org/2000/svg\" width=\"{}\" height=\"{}\" viewBox=\"0 0 {} {}\">\n<style>\n{}</style>\n\
+             <rect width=\"100%\" height=\"100%\" fill=\"#fff\"/>\n\
+             <text class=\"name\" x=\"{m}\" y=\"30\">{}</text>\n<text x=\"{m}\" y=\"51\">{}</text>\n\
+             <rect class=\"grid\" x=\"{}\" y=\"{}\" width=\"{}\" height=\"{}\"/>\n\
+             <g transform=\"translate({} {}) scale({} -{})\">\n{}</g>\n\
+             <g transform=\"translate({m} {})\">\n{}</g>\n</svg>\n",
+            round(width * self.unit),
+            round(height * self.unit),
+            round(width),
+            round(height),
+            STYLE,
+            escaped(name),
+            figures,
+            round(left),
+            HEAD,
+            round(across),
+            round(up),
+            x,
+            y,
+            fine,
+            fine,
+            shapes,
+            round(HEAD + up),
+            legend.svg(),
+            m = MARGIN,
+        )
+    }
+}
+
+/// Three decimals at most.
+pub fn round(length: f64) -> f64 {
+    (length * 1000.0).round() / 1000.0
+}
+
+fn escaped(text: &str) -> String {
+    text.replace('&', "&amp;").replace('<', "&lt;").replace('>', "&gt;")
+}

@@ -1,0 +1,310 @@
+//! The command line from end to end, each test in a folder of its own.
+
+use std::fs;
+use std::path::{Path, PathBuf};
+use std::process::{Command, Output};
+
+const EXAMPLES: &str = concat!(env!("CARGO_MANIFEST_DIR"), "/../examples");
+
+/// The single sample's sheet after 100 passes with tolerance 64.
+const SHEET: &[u8] = b"L\x03\0\x03\0C\0\0\0\x01\0K\xFFK\xFFK\x01K\x01E";
+
+struct Folder(PathBuf);
+
+impl Folder {
+    fn new(name: &str) -> Folder {
+        let path = std::env::temp_dir().join(format!("puzhenim-{}-{}", name, std::process::id()));
+        fs::create_dir_all(&path).unwrap();
+        Folder(path)
+    }
+
+    fn put(&self, name: &str, bytes: &[u8]) {
+        fs::write(self.0.join(name), bytes).unwrap();
+    }
+
+    fn get(&self, name: &str) -> Vec<u8> {
+        fs::read(self.0.join(name)).unwrap()
+    }
+
+    fn names(&self) -> Vec<String> {
+        let entries = fs::read_dir(&self.0).unwrap();
+        let mut names: Vec<String> = entries.map(|entry| entry.unwrap().file_name().into_string().unwrap()).collect();
+        names.sort();
+        names
+    }
+
+    fn run(&self, words: &[&str]) -> Output {
+        Command::new(env!("CARGO_BIN_EXE_puzhenim")).args(words).current_dir(&self.0).output().unwrap()
+    }
+
+    /// Standard output of a run that is done.
+    fn done(&self, words: &[&str]) -> String {
+        let output = self.run(words);
+        assert_eq!((output.status.code(), text(&output.stderr)), (Some(0), String::new()), "{:?}", words);
+        text(&output.stdout)
+    }
+
+    /// Standard error of a run that ends with this status and leaves the folder as it was.
+    fn fails(&self, status: i32, words: &[&str]) -> String {
+        let contents = |names: &[String]| -> Vec<Vec<u8>> { names.iter().map(|name| self.get(name)).collect() };
+        let names = self.names();
+        let before = contents(&names);
+        let output = self.run(words);
+        assert_eq!((output.status.code(), text(&output.stdout)), (Some(status), String::new()), "{:?}", words);
+        assert_eq!(self.names(), names);
+        assert_eq!(contents(&names), before);
+        text(&output.stderr)
+    }
+}
+
+impl Drop for Folder {
+    fn drop(&mut self) {
+        let _ = fs::remove_dir_all(&self.0);
+    }
+}
+
+fn text(bytes: &[u8]) -> String {
+    String::from_utf8(bytes.to_vec()).unwrap()
+}
+
+fn example(name: &str) -> String {
+    Path::new(EXAMPLES).join(name).to_str().unwrap().into()
+}
+
+#[test]
+fn slices_the_sample_as_the_layer_program_does() {
+    let folder = Folder::new("sample");
+    let report = folder.done(&["slice", &example("sample.layer"), "-o", "sheet"]);
+    assert_eq!(folder.get("sheet"), SHEET);
+    assert_eq!(report, "10 passes, settled; 0 vertices removed\n");
+    let words = ["slice", &example("sample.layer"), "-o", "again", "--passes", "100", "--tolerance=64"];
+    folder.done(&words);
+    assert_eq!(folder.get("again"), SHEET);
+    assert_eq!(folder.names(), ["again", "sheet"]);
+}
+
+#[test]
+fn slices_with_other_options() {
+    let folder = Folder::new("options");
+    let report = folder.done(&["slice", &example("sample.layer"), "--output", "sheet", "--passes", "1"]);
+    assert_eq!(report, "1 passes, not settled; 0 vertices removed\n");
+    assert_eq!(folder.get("sheet")[11..19], [b'K', 179, b'K', 179, b'K', 77, b'K', 77]);
+}
+
+#[test]
+fn an_output_replaces_what_was_there() {
+    let folder = Folder::new("replaces");
+    folder.put("sheet", b"old");
+    folder.done(&["slice", &example("sample.layer"), "-o", "sheet"]);
+    assert_eq!(folder.get("sheet"), SHEET);
+    assert_eq!(folder.names(), ["sheet"]);
+}
+
+#[test]
+fn standard_output_is_a_dash() {
+    let folder = Folder::new("dash");
+    let output = folder.run(&["slice", &example("sample.layer"), "-o", "-"]);
+    assert_eq!((output.status.code(), &output.stdout[..]), (Some(0), SHEET));
+}
+
+#[test]
+fn every_example_goes_round() {
+    let folder = Folder::new("round");
+    for name in ["sample.layer", "passages.layer", "block.pbm"] {
+        let input = example(name);
+        folder.done(&["slice", &input, "-o", "sheet"]);
+        assert!(folder.done(&["check", &input, "sheet"]).starts_with("The sheet is good"));
+        folder.put("roll", b"E");
+        assert_eq!(folder.done(&["roll", &input, "sheet", "roll", "-o", "sheet2"]), "0 commands done\n");
+        assert_eq!(folder.get("sheet"), folder.get("sheet2"));
+        folder.done(&["plan", &input, "sheet", "-o", "list"]);
+        folder.done(&["draw", &input, "sheet", "-o", "picture.svg"]);
+        folder.done(&["draw", &input, "-o", "traced.svg"]);
+    }
+}
+
+#[test]
+fn pictures_of_all_kinds_give_the_same_layer() {
+    let folder = Folder::new("pictures");
+    // Eleven columns, so that rows have spare bits; the comments stand where a head and a plain raster may have them.
+    let rows = ["00000000000", "00110000010", "00100000110", "00000000000"];
+    folder.put("packed.pbm", format!("P1\n11 4\n{}\n", rows.join("\n")).as_bytes());
+    let spaced: String = rows.concat().chars().flat_map(|digit| [digit, ' ']).collect();
+    folder.put("spaced.pbm", format!("P1 # plain\n# two lines\n 11# wide\n4\n{}# end", spaced).as_bytes());
+    let padding = [0b11111, 0b00111, 0b11000, 0];
+    let raw: Vec<u8> =
+        rows.iter().zip(padding).flat_map(|(row, pad)| (u16::from_str_radix(row, 2).unwrap() << 5 | pad).to_be_bytes()).collect();
+    folder.put("raw.pbm", &[b"P4\n# raw\n11 4\n", &raw[..]].concat());
+    folder.put("layer", b"L\x0B\0\x04\0\0\0\x04\x03\x0C\x02\0\0");
+    for name in ["packed.pbm", "spaced.pbm", "raw.pbm", "layer"] {
+        folder.done(&["slice", name, "-o", &format!("{}.sheet", name)]);
+        assert_eq!(folder.get(&format!("{}.sheet", name)), folder.get("packed.pbm.sheet"), "{}", name);
+    }
+}
+
+#[test]
+fn wrong_pictures_are_refused() {
+    let folder = Folder::new("wrong");
+    let refused = |bytes: &[u8]| {
+        folder.put("wrong.pbm", bytes);
+        let words = folder.fails(1, &["slice", "wrong.pbm", "-o", "sheet"]);
+        words.strip_prefix("puzhenim: wrong.pbm: ").expect("the file is named").trim_end().to_string()
+    };
+    assert_eq!(refused(b"P1\n3 3\n000010"), "the picture is cut short: it should have 3 rows of 3 samples");
+    assert_eq!(refused(b"P1\n3 3\n0 0 0 0 1 0 0 "), "the picture is cut short: it should have 3 rows of 3 samples");
+    assert_eq!(refused(b"P1\n3 3\n000020000"), "a sample is neither 0 nor 1, at byte 11");
+    assert_eq!(refused(b"P1\n3 3\n000010000\n0"), "more follows the picture, at byte 17");
+    assert_eq!(refused(b"P1\n3 x\n"), "the picture's height is no number of at least 1");
+    assert_eq!(refused(b"P4\n99999999999999999999999 3\n"), "the picture's width is no number of at least 1");
+    assert_eq!(refused(b"P4\n4000000000 4000000000\n"), "the picture is cut short: it should have 4000000000 rows of 4000000000 samples");
+    assert_eq!(refused(b"P5\n3 3\n"), "neither a portable bitmap (P1 or P4) nor a layer file");
+    assert_eq!(refused(b"L\x03\0\x03"), "neither a portable bitmap (P1 or P4) nor a layer file");
+    assert_eq!(refused(&[b"P4 70000 2 ", &[0; 17500][..]].concat()), "a side is not 2 to 1024 samples (question 1)");
+    assert_eq!(refused(&[b"P4 1025 2 ", &[0; 258][..]].concat()), "a side is not 2 to 1024 samples (question 1)");
+}
+
+#[test]
+fn a_border_is_required_and_can_be_added() {
+    let folder = Folder::new("border");
+    folder.put("full.pbm", b"P1 1 1 1");
+    assert!(folder.fails(1, &["slice", "full.pbm", "-o", "sheet"]).contains("(question 1)"));
+    folder.done(&["slice", "full.pbm", "-o", "sheet", "--pad"]);
+    assert_eq!(folder.get("sheet"), SHEET);
+    folder.done(&["check", "--pad", "full.pbm", "sheet"]);
+
+    folder.put("edge.pbm", b"P1 3 3 000 001 000");
+    let words = folder.fails(1, &["slice", "edge.pbm", "-o", "sheet"]);
+    assert!(words.starts_with("puzhenim: edge.pbm: a border sample is inside: sample 5 (question 4)\nThat is column 2, row 1 from below."));
+    let words = folder.fails(2, &["slice", &example("sample.layer"), "--pad", "-o", "sheet"]);
+    assert!(words.starts_with("puzhenim: --pad is for pictures"));
+}
+
+#[test]
+fn a_roll_edits_the_sheet() {
+    let folder = Folder::new("roll");
+    folder.put("sheet", SHEET);
+    folder.put("roll", b"S\0\0\0\x01\0\x80E");
+    assert_eq!(folder.done(&["roll", &example("sample.layer"), "sheet", "roll", "-o", "sheet"]), "1 commands done\n");
+    assert_eq!(folder.get("sheet")[12], 128);
+}
+
+#[test]
+fn a_roll_that_is_refused_writes_nothing() {
+    let folder = Folder::new("refused-roll");
+    folder.put("sheet", SHEET);
+    folder.put("roll", b"S\0\0\0\x01\0\x80X\0\0\0\x01\0E");
+    let words = folder.fails(1, &["roll", &example("sample.layer"), "sheet", "roll", "-o", "sheet2"]);
+    let expected = "puzhenim: roll: a redrawn edge does not cross each of its removed sticks: command 2 of the roll, at byte 7 \
+                    (question 11)\n1 commands before it passed; nothing is written.\n";
+    assert_eq!(words, expected);
+    folder.put("cut", b"S\0\0\0\x01\0\x80");
+    let words = folder.fails(1, &["roll", &example("sample.layer"), "sheet", "cut", "-o", "sheet"]);
+    assert_eq!(words, "puzhenim: cut: the roll or sheet is not well formed: command at byte 7 (question 8)\n");
+}
+
+#[test]
+fn plans_as_text_and_as_bytes() {
+    let folder = Folder::new("plan");
+    folder.put("sheet", SHEET);
+    folder.done(&["plan", &example("sample.layer"), "sheet", "-o", "list"]);
+    let list = "M 0.99609375 1\nl 1 0.99609375\nl 1.00390625 1\nl 1 1.00390625\nZ\n";
+    assert_eq!(text(&folder.get("list")), list);
+    folder.done(&["plan", &example("sample.layer"), "sheet", "-o", "items", "--binary", "points"]);
+    assert_eq!(folder.get("items"), b"MlllZ");
+    let points = folder.get("points");
+    assert_eq!((points.len(), &points[..8]), (64, &0.99609375_f64.to_le_bytes()[..]));
+    folder.fails(2, &["plan", &example("sample.layer"), "sheet", "-o", "same", "--binary", "same"]);
+    folder.fails(1, &["plan", &example("sample.layer"), "sheet", "-o", "list", "--binary", "none/points"]);
+}
+
+#[test]
+fn checks_a_sheet() {
+    let folder = Folder::new("check");
+    folder.put("sheet", SHEET);
+    let report = folder.done(&["check", &example("sample.layer"), "sheet"]);
+    let figures: Vec<&str> = report.lines().skip(1).collect();
+    let expected = [
+        "inside samples          1",
+        "sticks                  4",
+        "contours                1",
+        "kept vertices           4",
+        "removed vertices        0",
+    ];
+    assert_eq!(figures, expected);
+    folder.put("removed", &[&SHEET[..11], b"R", &SHEET[12..]].concat());
+    let words = folder.fails(1, &["check", &example("sample.layer"), "removed"]);
+    let expected = "puzhenim: removed: the layer is not held: contour that starts at stick 2 (question 7)\n\
+                    That stick is at column 0, row 1 from below.\n";
+    assert_eq!(words, expected);
+    let words = folder.fails(1, &["check", &example("passages.layer"), "sheet"]);
+    assert!(words.contains("command at byte 0 (question 8)"));
+}
+
+#[test]
+fn draws_outlines_and_bores() {
+    let folder = Folder::new("draw");
+    folder.done(&["draw", &example("passages.layer"), "-o", "traced.svg"]);
+    let picture = text(&folder.get("traced.svg"));
+    assert!(picture.contains("24 × 16 samples, 220 inside; 1 outline, 2 bores; 130 vertices kept, 0 removed"));
+    assert!(picture.contains("inside sample") && !picture.contains("removed vertex"));
+    folder.done(&["slice", &example("passages.layer"), "-o", "sheet"]);
+    folder.done(&["draw", &example("passages.layer"), "sheet", "-o", "sliced.svg"]);
+    assert!(text(&folder.get("sliced.svg")).contains("removed vertex"));
+}
+
+#[test]
+fn a_fine_grid_is_drawn_without_marks() {
+    let folder = Folder::new("fine");
+    let rows: Vec<u8> = (0..1024).flat_map(|row| [if row % 2 == 1 { 0x55 } else { 0 }; 128]).collect();
+    folder.put("fine.pbm", &[b"P4 1024 1024 ", &rows[..]].concat());
+    let words = folder.fails(1, &["draw", "fine.pbm", "-o", "fine.svg"]);
+    assert!(words.contains("(question 4)"));
+    let rows: Vec<u8> = (0..1022).flat_map(|row| [if row % 8 == 1 { 0x55 } else { 0 }; 128]).collect();
+    folder.put("fine.pbm", &[b"P4 1022 1022 ", &rows[..]].concat());
+    folder.done(&["draw", "fine.pbm", "--pad", "-o", "fine.svg"]);
+    let picture = text(&folder.get("fine.svg"));
+    assert!(!picture.contains("class=\"dot") && picture.len() < 4_000_000);
+}
+
+#[test]
+fn help_and_version() {
+    let folder = Folder::new("help");
+    let all = folder.done(&["--help"]);
+    for command in ["slice", "roll", "plan", "check", "draw"] {
+        assert!(all.contains(&format!("puzhenim {} IN", command)));
+        let help = folder.done(&[command, "--help"]);
+        assert!(help.starts_with(&format!("puzhenim {} IN", command)));
+        assert_eq!(folder.done(&["help", command]), help);
+    }
+    assert_eq!(folder.done(&["--version"]), format!("puzhenim {}\n", env!("CARGO_PKG_VERSION")));
+}
+
+#[test]
+fn a_wrong_command_line_ends_with_2() {
+    let folder = Folder::new("usage");
+    let input = example("sample.layer");
+    let wrong: [(&[&str], &str); 11] = [
+        (&[], "no command is given"),
+        (&["cut"], "there is no command cut"),
+        (&["slice"], "slice wants IN"),
+        (&["slice", &input], "slice wants -o"),
+        (&["slice", &input, "-o"], "slice wants a value after -o"),
+        (&["slice", &input, "-o", "a", "-o", "b"], "slice has -o twice"),
+        (&["slice", &input, "more", "-o", "a"], "slice takes no further operand: more"),
+        (&["slice", &input, "-o", "a", "--passes", "65536"], "slice wants a number of 0 to 65535 after --passes"),
+        (&["slice", &input, "-o", "a", "--tolerance", "-1"], "slice wants a number of 0 to 255 after --tolerance"),
+        (&["check", &input, "a", "--tolerance", "1"], "check has no option --tolerance"),
+        (&["check", &input, "a", "--pad=1"], "check takes no value with --pad"),
+    ];
+    for (words, expected) in wrong {
+        assert_eq!(folder.fails(2, words), format!("puzhenim: {}\nTry 'puzhenim --help'.\n", expected));
+    }
+}
+
+#[test]
+fn files_that_cannot_be_read_or_written() {
+    let folder = Folder::new("files");
+    assert!(folder.fails(1, &["slice", "none", "-o", "sheet"]).starts_with("puzhenim: none: "));
+    assert!(folder.fails(1, &["slice", &example("sample.layer"), "-o", "none/sheet"]).starts_with("puzhenim: none/sheet: "));
+    assert_eq!(folder.fails(1, &["slice", &example("sample.layer"), "-o", "."]), "puzhenim: .: is a folder\n");
+}
