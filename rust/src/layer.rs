@@ -63,7 +63,7 @@ fn accepted((number, [place, one, two, three]): raw::Answer) -> Result<[u64; 3],
     }
 }
 
-impl<'a> Layer<'a> {
+impl Layer<'_> {
     /// How many grid edges there are, each with an entry in the hold table: (width - 1) × height + width × (height - 1).
     ///
     /// ```

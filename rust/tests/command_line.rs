@@ -76,7 +76,7 @@ fn slices_the_sample_as_the_layer_program_does() {
     let folder = Folder::new("sample");
     let report = folder.done(&["slice", &example("sample.layer"), "-o", "sheet"]);
     assert_eq!(folder.get("sheet"), SHEET);
-    assert_eq!(report, "10 passes, settled; 0 vertices removed\n");
+    assert_eq!(report, "passes: 10 (settled), vertices removed: 0\n");
     let words = ["slice", &example("sample.layer"), "-o", "again", "--passes", "100", "--tolerance=64"];
     folder.done(&words);
     assert_eq!(folder.get("again"), SHEET);
@@ -87,7 +87,7 @@ fn slices_the_sample_as_the_layer_program_does() {
 fn slices_with_other_options() {
     let folder = Folder::new("options");
     let report = folder.done(&["slice", &example("sample.layer"), "--output", "sheet", "--passes", "1"]);
-    assert_eq!(report, "1 passes, not settled; 0 vertices removed\n");
+    assert_eq!(report, "passes: 1 (not settled), vertices removed: 0\n");
     assert_eq!(folder.get("sheet")[11..19], [b'K', 179, b'K', 179, b'K', 77, b'K', 77]);
 }
 
@@ -98,6 +98,17 @@ fn an_output_replaces_what_was_there() {
     folder.done(&["slice", &example("sample.layer"), "-o", "sheet"]);
     assert_eq!(folder.get("sheet"), SHEET);
     assert_eq!(folder.names(), ["sheet"]);
+}
+
+#[test]
+fn an_output_goes_where_a_link_leads() {
+    let folder = Folder::new("link");
+    folder.put("sheet", b"old");
+    std::os::unix::fs::symlink("sheet", folder.0.join("link")).unwrap();
+    folder.done(&["slice", &example("sample.layer"), "-o", "link"]);
+    assert_eq!(folder.get("sheet"), SHEET);
+    assert!(fs::symlink_metadata(folder.0.join("link")).unwrap().file_type().is_symlink());
+    folder.done(&["slice", &example("sample.layer"), "-o", "/dev/null"]);
 }
 
 #[test]
@@ -115,7 +126,7 @@ fn every_example_goes_round() {
         folder.done(&["slice", &input, "-o", "sheet"]);
         assert!(folder.done(&["check", &input, "sheet"]).starts_with("The sheet is good"));
         folder.put("roll", b"E");
-        assert_eq!(folder.done(&["roll", &input, "sheet", "roll", "-o", "sheet2"]), "0 commands done\n");
+        assert_eq!(folder.done(&["roll", &input, "sheet", "roll", "-o", "sheet2"]), "commands done: 0\n");
         assert_eq!(folder.get("sheet"), folder.get("sheet2"));
         folder.done(&["plan", &input, "sheet", "-o", "list"]);
         folder.done(&["draw", &input, "sheet", "-o", "picture.svg"]);
@@ -184,7 +195,7 @@ fn a_roll_edits_the_sheet() {
     let folder = Folder::new("roll");
     folder.put("sheet", SHEET);
     folder.put("roll", b"S\0\0\0\x01\0\x80E");
-    assert_eq!(folder.done(&["roll", &example("sample.layer"), "sheet", "roll", "-o", "sheet"]), "1 commands done\n");
+    assert_eq!(folder.done(&["roll", &example("sample.layer"), "sheet", "roll", "-o", "sheet"]), "commands done: 1\n");
     assert_eq!(folder.get("sheet")[12], 128);
 }
 
@@ -195,7 +206,7 @@ fn a_roll_that_is_refused_writes_nothing() {
     folder.put("roll", b"S\0\0\0\x01\0\x80X\0\0\0\x01\0E");
     let words = folder.fails(1, &["roll", &example("sample.layer"), "sheet", "roll", "-o", "sheet2"]);
     let expected = "puzhenim: roll: a redrawn edge does not cross each of its removed sticks: command 2 of the roll, at byte 7 \
-                    (question 11)\n1 commands before it passed; nothing is written.\n";
+                    (question 11)\nCommands done before it: 1. Nothing is written.\n";
     assert_eq!(words, expected);
     folder.put("cut", b"S\0\0\0\x01\0\x80");
     let words = folder.fails(1, &["roll", &example("sample.layer"), "sheet", "cut", "-o", "sheet"]);
@@ -245,7 +256,7 @@ fn draws_outlines_and_bores() {
     let folder = Folder::new("draw");
     folder.done(&["draw", &example("passages.layer"), "-o", "traced.svg"]);
     let picture = text(&folder.get("traced.svg"));
-    assert!(picture.contains("24 × 16 samples, 220 inside; 1 outline, 2 bores; 130 vertices kept, 0 removed"));
+    assert!(picture.contains("24 × 16 samples, 220 inside; 1 outline, 2 bores; vertices: 130 kept, 0 removed"));
     assert!(picture.contains("inside sample") && !picture.contains("removed vertex"));
     folder.done(&["slice", &example("passages.layer"), "-o", "sheet"]);
     folder.done(&["draw", &example("passages.layer"), "sheet", "-o", "sliced.svg"]);
@@ -283,7 +294,7 @@ fn help_and_version() {
 fn a_wrong_command_line_ends_with_2() {
     let folder = Folder::new("usage");
     let input = example("sample.layer");
-    let wrong: [(&[&str], &str); 11] = [
+    let wrong: [(&[&str], &str); 12] = [
         (&[], "no command is given"),
         (&["cut"], "there is no command cut"),
         (&["slice"], "slice wants IN"),
@@ -295,6 +306,7 @@ fn a_wrong_command_line_ends_with_2() {
         (&["slice", &input, "-o", "a", "--tolerance", "-1"], "slice wants a number of 0 to 255 after --tolerance"),
         (&["check", &input, "a", "--tolerance", "1"], "check has no option --tolerance"),
         (&["check", &input, "a", "--pad=1"], "check takes no value with --pad"),
+        (&["check", "-", "-"], "check reads standard input once only"),
     ];
     for (words, expected) in wrong {
         assert_eq!(folder.fails(2, words), format!("puzhenim: {}\nTry 'puzhenim --help'.\n", expected));

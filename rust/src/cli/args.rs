@@ -23,7 +23,7 @@ pub fn parse(command: &'static Command, mut words: impl Iterator<Item = OsString
             _ => args.operands.push(word),
         }
     }
-    args.count_operands()?;
+    args.check_operands()?;
     Ok(Some(args))
 }
 
@@ -50,10 +50,13 @@ impl Args {
         Ok(())
     }
 
-    fn count_operands(&self) -> Result<(), Failure> {
+    fn check_operands(&self) -> Result<(), Failure> {
         let names = self.command.operands;
         if let Some(extra) = self.operands.get(names.len()) {
             return Err(self.usage(format!("takes no further operand: {}", extra.to_string_lossy())));
+        }
+        if self.operands.iter().filter(|operand| *operand == "-").count() > 1 {
+            return Err(self.usage("reads standard input once only".into()));
         }
         match names.get(self.operands.len()) {
             Some(missing) if !missing.starts_with('[') => Err(self.usage(format!("wants {}", missing))),

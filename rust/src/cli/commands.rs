@@ -66,7 +66,7 @@ fn slice(args: &Args) -> Result<(), Failure> {
     files::write(&[(output, &sheet)])?;
     drop(progress);
     let settled = if smoothed.settled { "settled" } else { "not settled" };
-    report(output, &format!("{} passes, {}; {} vertices removed\n", smoothed.passes, settled, simplified.removed))
+    report(output, &format!("passes: {} ({}), vertices removed: {}\n", smoothed.passes, settled, simplified.removed))
 }
 
 fn roll(args: &Args) -> Result<(), Failure> {
@@ -82,12 +82,12 @@ fn roll(args: &Args) -> Result<(), Failure> {
     let sheet = job.layer().sheet(&table).map_err(|refusal| job.refused(refusal))?;
     files::write(&[(output, &sheet)])?;
     drop(progress);
-    report(output, &format!("{} commands done\n", done))
+    report(output, &format!("commands done: {}\n", done))
 }
 
 fn roll_refused(path: &OsStr, refusal: Refusal) -> Failure {
     match refusal.done() {
-        Some(done) => Failure::of(path, format_args!("{}\n{} commands before it passed; nothing is written.", refusal, done)),
+        Some(done) => Failure::of(path, format_args!("{}\nCommands done before it: {}. Nothing is written.", refusal, done)),
         None => Failure::of(path, refusal),
     }
 }

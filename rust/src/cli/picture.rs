@@ -15,7 +15,7 @@ pub fn draw(name: &str, layer: Layer, table: &[u16]) -> Result<String, Refusal> 
     let frame = Frame::of(layer);
     let counts = layer.counts(table)?;
     let figures = format!(
-        "{} × {} samples, {} inside; {}, {}; {} vertices kept, {} removed",
+        "{} × {} samples, {} inside; {}, {}; vertices: {} kept, {} removed",
         layer.width,
         layer.height,
         counts.inside,

@@ -42,10 +42,11 @@ impl Drop for Progress {
 
 fn tick(heard: &Receiver<&'static str>) {
     let (start, mut label, mut shown) = (Instant::now(), "reading", false);
+    let mut due = start + SECOND;
     loop {
-        match heard.recv_timeout(SECOND) {
+        match heard.recv_timeout(due.saturating_duration_since(Instant::now())) {
             Ok(next) => label = next,
-            Err(RecvTimeoutError::Timeout) => {}
+            Err(RecvTimeoutError::Timeout) => due += SECOND,
             Err(RecvTimeoutError::Disconnected) => break,
         }
         if start.elapsed() >= SECOND {

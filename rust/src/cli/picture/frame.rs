@@ -76,40 +76,44 @@ impl Frame {
         (self.columns * self.scale / self.unit).max(LEAST_WIDTH) + 2.0 * MARGIN
     }
 
-    /// The whole picture. Lengths outside the grid are multiplied by the unit.
+    /// The whole picture. All lengths but the outermost are multiplied by the unit.
     pub fn page(&self, name: &str, figures: &str, shapes: &str, legend: &Legend) -> String {
         let (across, up) = (self.columns * self.scale / self.unit, self.rows * self.scale / self.unit);
         let (width, height) = (self.width(), HEAD + up + legend.height() + MARGIN);
-        let left = (width - across) / 2.0;
-        let pitch = self.scale / self.unit;
-        // Sample (0, 0) is half a pitch from the grid's lower left corner; y grows upward.
-        let (x, y, fine) = (round(left + pitch / 2.0), round(HEAD + up - pitch / 2.0), pitch / 256.0);
+        let (wide, high) = (round(width * self.unit), round(height * self.unit));
         format!(
             "<svg xmlns=\"http://www.w3.org/2000/svg\" width=\"{}\" height=\"{}\" viewBox=\"0 0 {} {}\">\n<style>\n{}</style>\n\
              <rect width=\"100%\" height=\"100%\" fill=\"#fff\"/>\n\
              <text class=\"name\" x=\"{m}\" y=\"30\">{}</text>\n<text x=\"{m}\" y=\"51\">{}</text>\n\
-             <rect class=\"grid\" x=\"{}\" y=\"{}\" width=\"{}\" height=\"{}\"/>\n\
-             <g transform=\"translate({} {}) scale({} -{})\">\n{}</g>\n\
-             <g transform=\"translate({m} {})\">\n{}</g>\n</svg>\n",
-            round(width * self.unit),
-            round(height * self.unit),
+             {}<g transform=\"translate({m} {})\">\n{}</g>\n</svg>\n",
+            wide,
+            high,
             round(width),
             round(height),
             STYLE,
             escaped(name),
             figures,
+            self.grid(across, up, shapes),
+            round(HEAD + up),
+            legend.svg(),
+            m = MARGIN,
+        )
+    }
+
+    /// The grid in the middle of the page, with the shapes. Sample (0, 0) is half a pitch from its lower left corner, and y grows upward.
+    fn grid(&self, across: f64, up: f64, shapes: &str) -> String {
+        let (left, pitch) = ((self.width() - across) / 2.0, self.scale / self.unit);
+        format!(
+            "<rect class=\"grid\" x=\"{}\" y=\"{}\" width=\"{}\" height=\"{}\"/>\n\
+             <g transform=\"translate({} {}) scale({fine} -{fine})\">\n{}</g>\n",
             round(left),
             HEAD,
             round(across),
             round(up),
-            x,
-            y,
-            fine,
-            fine,
+            round(left + pitch / 2.0),
+            round(HEAD + up - pitch / 2.0),
             shapes,
-            round(HEAD + up),
-            legend.svg(),
-            m = MARGIN,
+            fine = pitch / 256.0,
         )
     }
 }
