@@ -168,6 +168,8 @@ fn wrong_pictures_are_refused() {
     assert_eq!(refused(b"P1\n3 x\n"), "the picture's height is no number of at least 1");
     assert_eq!(refused(b"P4\n99999999999999999999999 3\n"), "the picture's width is no number of at least 1");
     assert_eq!(refused(b"P4\n4000000000 4000000000\n"), "the picture is cut short: it should have 4000000000 rows of 4000000000 samples");
+    assert_eq!(refused(b"P4\n3 3\r\n\x00\x40\x00"), "more follows the picture, at byte 10");
+    assert!(refused(b"P4 18446744073709551615 1 ").starts_with("the picture is cut short"));
     assert_eq!(refused(b"P5\n3 3\n"), "neither a portable bitmap (P1 or P4) nor a layer file");
     assert_eq!(refused(b"L\x03\0\x03"), "neither a portable bitmap (P1 or P4) nor a layer file");
     assert_eq!(refused(&[b"P4 70000 2 ", &[0; 17500][..]].concat()), "a side is not 2 to 1024 samples (question 1)");

@@ -4,10 +4,10 @@ use crate::args::Args;
 use crate::failure::Failure;
 use crate::files;
 use crate::help;
-use crate::input::Input;
+use crate::job::Job;
 use crate::picture;
 use crate::progress::Progress;
-use puzhenim::{Item, Layer, List, Refusal, Vertex};
+use puzhenim::{Item, List, Refusal, Vertex};
 use std::ffi::OsStr;
 use std::fmt::Write;
 use std::path::Path;
@@ -94,14 +94,17 @@ fn roll_refused(path: &OsStr, refusal: Refusal) -> Failure {
 
 fn plan(args: &Args) -> Result<(), Failure> {
     let output = args.required("-o")?;
+    let points = args.option("--binary");
+    if points == Some(output) {
+        return Err(Failure::Usage("plan wants two different files with --binary".into()));
+    }
     let (progress, job) = (Progress::start(), Job::open(args)?);
     let table = job.read_sheet(&progress)?;
     progress.step("planning");
     let list = job.layer().list(&table).map_err(|refusal| job.refused(refusal))?;
     progress.step("writing");
-    match args.option("--binary") {
+    match points {
         None => files::write(&[(output, as_text(&list).as_bytes())]),
-        Some(points) if points == output => Err(Failure::Usage("plan wants two different files with --binary".into())),
         Some(points) => {
             let floats: Vec<u8> = list.points.iter().flat_map(|float| float.to_le_bytes()).collect();
             files::write(&[(output, &list.items), (points, &floats)])
@@ -176,42 +179,4 @@ fn report(output: &OsStr, text: &str) -> Result<(), Failure> {
         return Ok(());
     }
     files::say(text)
-}
-
-/// A command's operands, with the layer read.
-struct Job<'a> {
-    args: &'a Args,
-    input: Input,
-}
-
-impl<'a> Job<'a> {
-    fn open(args: &'a Args) -> Result<Job<'a>, Failure> {
-        let path = args.operand(0).unwrap_or_default();
-        Ok(Job { args, input: Input::read(path, args.option("--pad").is_some())? })
-    }
-
-    /// An operand that the command always has.
-    fn operand(&self, index: usize) -> &'a OsStr {
-        self.args.operand(index).unwrap_or_default()
-    }
-
-    fn layer(&self) -> Layer<'_> {
-        self.input.layer()
-    }
-
-    fn refused(&self, refusal: Refusal) -> Failure {
-        Failure::refused(self.operand(0), self.layer(), refusal)
-    }
-
-    /// The table of the sheet that is the second operand.
-    fn read_sheet(&self, progress: &Progress) -> Result<Vec<u16>, Failure> {
-        let path = self.operand(1);
-        let sheet = files::read(path)?;
-        progress.step("reading the sheet");
-        let mut table = self.layer().new_table();
-        match self.layer().read_sheet(&mut table, &sheet) {
-            Ok(()) => Ok(table),
-            Err(refusal) => Err(Failure::refused(path, self.layer(), refusal)),
-        }
-    }
 }

@@ -57,21 +57,12 @@ impl<'a> Staged<'a> {
         // A link stays a link: what it leads to is replaced.
         let target = fs::canonicalize(path).unwrap_or_else(|_| PathBuf::from(path));
         let temporary = beside(&target).ok_or_else(|| Failure::of(path, "is not the name of a file"))?;
-        let staged = Staged::Beside { path, temporary, target };
-        staged.fill(bytes).map_err(|error| Failure::of(path, error))?;
+        let failed = |error| Failure::of(path, error);
+        let file = OpenOptions::new().write(true).create_new(true).open(&temporary).map_err(failed)?;
+        // From here on the temporary file goes if anything fails.
+        let staged = Staged::Beside { path, temporary, target: target.clone() };
+        fill(file, &target, bytes).map_err(failed)?;
         Ok(staged)
-    }
-
-    fn fill(&self, bytes: &[u8]) -> io::Result<()> {
-        if let Staged::Beside { temporary, target, .. } = self {
-            let mut file = OpenOptions::new().write(true).create_new(true).open(temporary)?;
-            if let Ok(data) = fs::metadata(target) {
-                file.set_permissions(data.permissions())?;
-            }
-            file.write_all(bytes)?;
-            file.sync_all()?;
-        }
-        Ok(())
     }
 
     fn publish(self) -> Result<(), Failure> {
@@ -90,6 +81,15 @@ impl Drop for Staged<'_> {
             let _ = fs::remove_file(temporary);
         }
     }
+}
+
+/// Writes a file that gets the permissions of the one it replaces.
+fn fill(mut file: File, target: &Path, bytes: &[u8]) -> io::Result<()> {
+    if let Ok(data) = fs::metadata(target) {
+        file.set_permissions(data.permissions())?;
+    }
+    file.write_all(bytes)?;
+    file.sync_all()
 }
 
 /// A name in the same folder that no other run has.

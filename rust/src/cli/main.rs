@@ -8,6 +8,7 @@ mod failure;
 mod files;
 mod help;
 mod input;
+mod job;
 mod pbm;
 mod picture;
 mod progress;

@@ -14,22 +14,28 @@ impl Picture {
 }
 
 fn stride(width: usize) -> usize {
-    (width + 7) / 8
+    width / 8 + usize::from(width % 8 > 0)
 }
 
 pub fn is_pbm(bytes: &[u8]) -> bool {
     bytes.starts_with(b"P1") || bytes.starts_with(b"P4")
 }
 
-/// The one picture of a file, or what is wrong with it.
+/// The one picture of a file, or what is wrong with it. Blanks and comments may follow a plain raster, nothing a raw one.
 pub fn read(bytes: &[u8]) -> Result<Picture, String> {
     let mut source = Source { bytes, at: 2 };
     let (width, height) = (source.side("width")?, source.side("height")?);
-    let rows = if bytes.starts_with(b"P1") { source.plain(width, height)? } else { source.raw(width, height)? };
-    match source.token() {
+    let is_plain = bytes.starts_with(b"P1");
+    let rows = if is_plain { source.plain(width, height)? } else { source.raw(width, height)? };
+    let next = if is_plain { source.token() } else { source.byte() };
+    match next {
         Some(_) => Err(format!("more follows the picture, at byte {}", source.at - 1)),
         None => Ok(Picture { width, height, rows }),
     }
+}
+
+fn cut_short(width: usize, height: usize) -> String {
+    format!("the picture is cut short: it should have {} rows of {} samples", height, width)
 }
 
 struct Source<'a> {
@@ -38,15 +44,21 @@ struct Source<'a> {
 }
 
 impl Source<'_> {
+    fn byte(&mut self) -> Option<u8> {
+        let byte = self.bytes.get(self.at).copied()?;
+        self.at += 1;
+        Some(byte)
+    }
+
     /// The next byte, a comment read as the end of its line.
     fn next(&mut self) -> Option<u8> {
-        let rest = &self.bytes[self.at..];
-        let length = match rest.first()? {
-            b'#' => rest.iter().position(|byte| *byte == b'\n' || *byte == b'\r').map_or(rest.len(), |end| end + 1),
-            _ => 1,
-        };
-        self.at += length;
-        Some(if rest[0] == b'#' { b'\n' } else { rest[0] })
+        let mut byte = self.byte()?;
+        if byte == b'#' {
+            while !matches!(byte, b'\n' | b'\r') {
+                byte = self.byte().unwrap_or(b'\n');
+            }
+        }
+        Some(byte)
     }
 
     /// The next byte that is no blank.
@@ -78,7 +90,7 @@ impl Source<'_> {
     fn room(&self, width: usize, height: usize, bytes_a_row: usize) -> Result<usize, String> {
         match height.checked_mul(bytes_a_row) {
             Some(wanted) if wanted <= self.bytes.len() - self.at => Ok(height * stride(width)),
-            _ => Err(format!("the picture is cut short: it should have {} rows of {} samples", height, width)),
+            _ => Err(cut_short(width, height)),
         }
     }
 
@@ -90,7 +102,7 @@ impl Source<'_> {
                     Some(b'0') => {}
                     Some(b'1') => row[column / 8] |= 128 >> (column % 8),
                     Some(_) => return Err(format!("a sample is neither 0 nor 1, at byte {}", self.at - 1)),
-                    None => return Err(format!("the picture is cut short: it should have {} rows of {} samples", height, width)),
+                    None => return Err(cut_short(width, height)),
                 }
             }
         }

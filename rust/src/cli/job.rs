@@ -1,0 +1,47 @@
+//! A run's layer and operands.
+
+use crate::args::Args;
+use crate::failure::Failure;
+use crate::files;
+use crate::input::Input;
+use crate::progress::Progress;
+use puzhenim::{Layer, Refusal};
+use std::ffi::OsStr;
+
+/// A command's operands, with the layer read.
+pub struct Job<'a> {
+    args: &'a Args,
+    input: Input,
+}
+
+impl<'a> Job<'a> {
+    pub fn open(args: &'a Args) -> Result<Job<'a>, Failure> {
+        let path = args.operand(0).unwrap_or_default();
+        Ok(Job { args, input: Input::read(path, args.option("--pad").is_some())? })
+    }
+
+    /// An operand that the command always has.
+    pub fn operand(&self, index: usize) -> &'a OsStr {
+        self.args.operand(index).unwrap_or_default()
+    }
+
+    pub fn layer(&self) -> Layer<'_> {
+        self.input.layer()
+    }
+
+    pub fn refused(&self, refusal: Refusal) -> Failure {
+        Failure::refused(self.operand(0), self.layer(), refusal)
+    }
+
+    /// The table of the sheet that is the second operand.
+    pub fn read_sheet(&self, progress: &Progress) -> Result<Vec<u16>, Failure> {
+        let path = self.operand(1);
+        let sheet = files::read(path)?;
+        progress.step("reading the sheet");
+        let mut table = self.layer().new_table();
+        match self.layer().read_sheet(&mut table, &sheet) {
+            Ok(()) => Ok(table),
+            Err(refusal) => Err(Failure::refused(path, self.layer(), refusal)),
+        }
+    }
+}
