@@ -13,3 +13,4 @@ pub mod ReadFill
 pub mod ReadHeld
 pub mod ReadTheorems
 pub mod ReadWritten
+pub mod ReadExamples

@@ -3,7 +3,6 @@ use super::write_bytes::put_byte;
 use super::write_bytes::put_size;
 use super::write_walk::put_contours;
 use contour::contour_count;
-use contour::first_sticks;
 use grid::Answer;
 use grid::Refusal;
 use grid::Size;
@@ -51,17 +50,22 @@ fn put_sheet(size: Size, bitmap: &[u8], table: &[u16], set: &[u64; 16368], sheet
 }
 
 // Writes the sheet of a layer that passed questions 1 to 7, if the output is long enough.
-fn write_held(size: Size, bitmap: &[u8], table: &[u16], sheet: &mut [u8]) -> Written
+fn write_held(
+    size: Size,
+    bitmap: &[u8],
+    table: &[u16],
+    set: &[u64; 16368],
+    sheet: &mut [u8],
+) -> Written
     requires { ⌜ firstNo (heldQuestions (layerOf size (now bitmap)) (now table)) ≡ Yes ⌝ }
+    requires { ⌜ FirstSet (layerOf size (now bitmap)) (now set) ⌝ }
     ensures { λ r. ⌜ outcome r (now (sheet .exit)) ≡ writeOf (layerOf size (now (bitmap .entry))) (now (table .entry)) (now (sheet .entry)) ⌝ }
 {
-    let mut set: [u64; 16368] = [0; 16368];
-    first_sticks(size, bitmap, &mut set);
-    let length = sheet_length(size, bitmap, &set);
+    let length = sheet_length(size, bitmap, set);
     if sheet.len() < length {
         return Written::Refused(Refusal::ShortOutput, 0);
     }
-    put_sheet(size, bitmap, table, &set, sheet);
+    put_sheet(size, bitmap, table, set, sheet);
     Written::Done(length)
 }
 
@@ -73,9 +77,10 @@ pub fn write_sheet(w: u16, h: u16, bitmap: &[u8], table: &[u16], sheet: &mut [u8
         width: w as usize,
         height: h as usize,
     };
-    let answer = held::ask_layer_held(size, bitmap, table);
+    let mut set: [u64; 16368] = [0; 16368];
+    let answer = held::ask_held_firsts(size, bitmap, table, &mut set);
     match answer {
-        Answer::Yes => write_held(size, bitmap, table, sheet),
+        Answer::Yes => write_held(size, bitmap, table, &set, sheet),
         Answer::No(q, place) => Written::Refused(q, place),
     }
 }

@@ -4,7 +4,6 @@ use native.Mathlib.Omega.{arith}
 use borrow.Author.Needs.{needs}
 use lib.ListN.{length}
 use Rattle.grid.specs.Layer.{layerOf}
-use Rattle.contour.proofs.Sets.{empty-set}
 use Rattle.held.proofs.Asking.{accepted-of}
 use Rattle.sheet.specs.Written.{sheetOf}
 use Rattle.sheet.proofs.BytesCounted as Counted
@@ -12,60 +11,55 @@ use Rattle.sheet.proofs.BytesAnswered.{written-short, written-done}
 use Rattle.sheet.proofs.write.write_held.Statement.{statement}
 use Rattle.sheet.proofs.write.write_held.Tie as tie
 
-first-sticks-requires : tie.Need-first-sticks-requires
-first-sticks-requires c κs =
-    let a = c .before .before .before .before .args in
-    (accepted-of (layerOf (a .size) (a .bitmap .now)) (a .table .now) (c .before .before .before .before .pre) .sound, empty-set)
-
 sheet-length-requires : tie.Need-sheet-length-requires
 sheet-length-requires c κs =
-    let a = c .before .before .before .before .before .before .args in
-    let given = c .before .before .before .before .before .before .pre in
-    (accepted-of (layerOf (a .size) (a .bitmap .now)) (a .table .now) given .sound, c .before .first-sticks .ensures)
+    let start = c .before .before .before in
+    let a = start .args in
+    (accepted-of (layerOf (a .size) (a .bitmap .now)) (a .table .now) (start .pre .0) .sound, start .pre .1)
 
 -- the length that was computed is the sheet's
 length-is : (c : tie.After-sheet-length)
-    → let a = c .before .before .before .before .before .before .before .args in
+    → let a = c .before .before .before .before .args in
     c .sheet-length .result ≡ length (sheetOf (layerOf (a .size) (a .bitmap .now)) (a .table .now))
 length-is c =
-    let a = c .before .before .before .before .before .before .before .args in
+    let start = c .before .before .before .before in
+    let a = start .args in
     let L = layerOf (a .size) (a .bitmap .now) in
-    let all = accepted-of L (a .table .now) (c .before .before .before .before .before .before .before .pre) in
+    let all = accepted-of L (a .table .now) (start .pre .0) in
     c .sheet-length .ensures ∙ sym (Counted.sheet-length L (all .sound) (a .table .now) (all .entries))
 
 returns : tie.Need-returns
 returns c =
-    let a = c .before .before .before .before .before .before .before .before .args in
+    let start = c .before .before .before .before .before in
+    let a = start .args in
     let L = layerOf (a .size) (a .bitmap .now) in
-    let given = c .before .before .before .before .before .before .before .before .pre in
-    sym (written-short L (a .table .now) (a .sheet .now) given (omega (arith, c .if1 .taken, length-is (c .before))))
+    sym (written-short L (a .table .now) (a .sheet .now) (start .pre .0) (omega (arith, c .if1 .taken, length-is (c .before))))
 
 put-sheet-requires : tie.Need-put-sheet-requires
 put-sheet-requires c κs =
-    let a = c .before .before .before .before .before .before .before .before .before .before .args in
+    let start = c .before .before .before .before .before .before in
+    let a = start .args in
     let L = layerOf (a .size) (a .bitmap .now) in
-    let all = accepted-of L (a .table .now) (c .before .before .before .before .before .before .before .before .before .before .pre) in
-    let firsts = c .before .before .before .before .before .first-sticks .ensures in
-    (all .sound, (all .exact, (firsts, omega (arith, c .before .before .if1 .left, length-is (c .before .before .before)))))
+    let all = accepted-of L (a .table .now) (start .pre .0) in
+    (all .sound, (all .exact, (start .pre .1, omega (arith, c .before .if1 .left, length-is (c .before .before)))))
 
 same-length : tie.Need-same-length
 same-length c = search needs
 
 returns-2 : tie.Need-returns-2
 returns-2 c =
-    let a = c .before .before .before .before .before .before .before .before .before .before .before .before .before .args in
+    let start = c .before .before .before .before .before .before .before .before .before in
+    let a = start .args in
     let L = layerOf (a .size) (a .bitmap .now) in
-    let long = length-is (c .before .before .before .before .before .before) in
+    let long = length-is (c .before .before .before .before .before) in
     let put = c .before .before .put-sheet in
-    let given = c .before .before .before .before .before .before .before .before .before .before .before .before .before .pre in
-    let done = written-done L (a .table .now) (a .sheet .now) given (omega (arith, c .before .before .before .before .before .if1 .left, long)) in
+    let done = written-done L (a .table .now) (a .sheet .now) (start .pre .0) (omega (arith, c .before .before .before .before .if1 .left, long)) in
     (λ i. record { refusal = 0; place = 0; written = long i; output = put .ensures i }) ∙ sym done
 
 pub write-held-spec : {M : Type 1} → statement M
 write-held-spec =
     tie.close
     (tie.spec
-    first-sticks-requires
     sheet-length-requires
     returns
     put-sheet-requires

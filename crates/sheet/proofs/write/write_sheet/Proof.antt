@@ -2,18 +2,23 @@
 use mathlib.Core.Path.{sym, _∙_}
 use borrow.Author.Needs.{needs}
 use Rattle.grid.specs.Layer.{layerOf, sizeOf}
+use Rattle.contour.proofs.Sets.{empty-set}
 use Rattle.sheet.proofs.BytesAnswered.{written-no}
 use Rattle.sheet.proofs.write.write_sheet.Statement.{statement}
 use Rattle.sheet.proofs.write.write_sheet.Tie as tie
 
-ask-layer-held-requires : tie.Need-ask-layer-held-requires
-ask-layer-held-requires c κs = search needs
+ask-held-firsts-requires : tie.Need-ask-held-firsts-requires
+ask-held-firsts-requires c κs = empty-set
 
 enum-told : tie.Need-enum-told
 enum-told c = search needs
 
 write-held-requires : tie.Need-write-held-requires
-write-held-requires c κs = sym (c .before .before .before .ask-layer-held .ensures) ∙ c .before .enum-told .given .1
+write-held-requires c κs =
+    let told = c .before .before in
+    let asked = told .before .before .ask-held-firsts .ensures in
+    let yes = told .enum-told .given .1 in
+    (sym (asked .0) ∙ yes, asked .1 yes)
 
 enum-known-answer : tie.Need-enum-known-answer
 enum-known-answer c = search needs
@@ -27,16 +32,16 @@ returns c = search needs
 returns-2 : tie.Need-returns-2
 returns-2 c =
     let answer = c .before .answer in
-    let a = c .before .before .before .before .before .before .before .args in
+    let a = c .before .before .before .before .before .before .before .before .args in
     let L = layerOf (sizeOf (a .w) (a .h)) (a .bitmap .now) in
     sym (written-no L (a .table .now) (a .sheet .now) (answer .given .0 .0) (answer .given .0 .1 .0)
-    (sym (c .before .before .before .ask-layer-held .ensures) ∙ answer .given .1))
+    (sym (c .before .before .before .ask-held-firsts .ensures .0) ∙ answer .given .1))
 
 pub write-sheet-spec : {M : Type 1} → statement M
 write-sheet-spec =
     tie.close
     (tie.spec
-    ask-layer-held-requires
+    ask-held-firsts-requires
     enum-told
     write-held-requires
     enum-known-answer
