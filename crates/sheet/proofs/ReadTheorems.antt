@@ -57,8 +57,8 @@ module _ (L : Layer) (t s : List ℕ) where
       go (No q place) e = absurd (omega (arith, number-some q, done, ap (λ (o : Outcome). o .refusal) (answer-is (No q place) e)))
 
   -- It leaves an accepted layer: of a sheet of bytes.
-  pub read-held : ((k : ℕ) → getD s k 0 < 256) → readOf L t s .refusal ≡ 0 → Accepted L (readOf L t s .table)
-  read-held bytes done =
+  pub read-opens : ((k : ℕ) → getD s k 0 < 256) → readOf L t s .refusal ≡ 0 → Accepted L (readOf L t s .table)
+  read-opens bytes done =
       let p = read-passes done in
       rw (p .left) (record {
         sound = p .sound;
@@ -79,6 +79,6 @@ module _ (L : Layer) (t s : List ℕ) where
   -- So, whatever the answer is, an accepted layer stays one.
   pub read-keeps : ((k : ℕ) → getD s k 0 < 256) → Accepted L t → Accepted L (readOf L t s .table)
   read-keeps bytes accepted = elim (ℕ-discrete (readOf L t s .refusal) 0) [
-    | yes done ↦ read-held bytes done
+    | yes done ↦ read-opens bytes done
     | no refused ↦ rw (read-refused refused) accepted
   ]

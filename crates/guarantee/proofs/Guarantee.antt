@@ -1,0 +1,34 @@
+-- The one theorem that the project is for. Each call takes a layer that passes questions 1 to 7 to such a layer, whether it is done,
+-- refused or stopped partway (a lemma in each call's crate); and such a layer is faithful (held, Faithful).
+use mathlib.Core.List.{List, [], _∷_}
+use Prim.Native.Nat.{ℕ}
+use Rattle.grid.specs.Layer.{Layer}
+use Rattle.held.specs.Questions as Held
+use Rattle.held.proofs.Faithful.{faithful}
+use Rattle.trace.proofs.Held.{trace-opens, trace-keeps}
+use Rattle.sheet.proofs.ReadTheorems.{read-opens, read-keeps}
+use Rattle.smooth.proofs.Held.{smooth-keeps}
+use Rattle.simplify.proofs.Held.{simplify-keeps}
+use Rattle.roll.proofs.Held.{roll-keeps}
+use Rattle.guarantee.specs.Calls.{Sheet, Call, trace, read, smooth, simplify, roll, after, afterAll, Opening, byTrace, bySheet, Accepted, opened, Guarantee}
+
+module _ (L : Layer) where
+  opens : (t : List ℕ) (opening : Opening) → Accepted L t opening → Held.Accepted L (opened L t opening)
+  opens t byTrace done = trace-opens L t done
+  opens t (bySheet sheet) done = read-opens L t (sheet .bytes) (sheet .below) done
+
+  keeps : (t : List ℕ) → Held.Accepted L t → (call : Call) → Held.Accepted L (after L t call)
+  keeps t held trace = trace-keeps L t held
+  keeps t held (read sheet) = read-keeps L t (sheet .bytes) (sheet .below) held
+  keeps t held (smooth limit) = smooth-keeps L limit t held
+  keeps t held (simplify tolerance) = simplify-keeps L tolerance t held
+  keeps t held (roll commands tolerance) = roll-keeps L tolerance commands t held
+
+  keeps-all : (calls : List Call) (t : List ℕ) → Held.Accepted L t → Held.Accepted L (afterAll L t calls)
+  keeps-all [] t held = held
+  keeps-all (call ∷ calls) t held = keeps-all calls (after L t call) (keeps t held call)
+
+pub guarantee : Guarantee
+guarantee L t opening done calls =
+    let held = keeps-all L calls (opened L t opening) (opens L t opening done) in
+    faithful L (afterAll L (opened L t opening) calls) (held .sound) (held .entries) (held .held)

@@ -1,0 +1,58 @@
+-- "The list of demand 3 may be empty and has its calls in any order and number. It opens on the table as an accepted Trace or sheet reading
+-- left it. Each call gets W, H and the bitmap of that opening call, and the table as the call before it left it, done, refused or stopped
+-- partway through a roll." The definitions named here are the ones that the promises of the five calls name.
+use mathlib.Core.Path.{_≡_}
+use mathlib.Core.List.{List, foldl}
+use Prim.Native.Nat.{ℕ, _<_}
+use lib.ListN.{getD}
+use Rattle.grid.specs.Layer.{Layer}
+use Rattle.held.specs.Faithful.{Faithful}
+use Rattle.trace.specs.Trace.{traceOf}
+use Rattle.sheet.specs.Reading.{readOf}
+use Rattle.smooth.specs.Call.{smoothOf}
+use Rattle.simplify.specs.Call.{simplifyOf}
+use Rattle.roll.specs.Roll.{rollOf}
+
+-- a sheet as it is lent, a list of bytes
+pub record Sheet : Type 0 where
+  pub bytes : List ℕ
+  pub below : (k : ℕ) → getD bytes k 0 < 256
+
+-- the calls that write a table, with what each is given besides W, H, the bitmap and the table
+pub data Call : Type 0 where
+  trace : Call
+  read : Sheet → Call
+  smooth : (limit : ℕ) → Call
+  simplify : (tolerance : ℕ) → Call
+  roll : (commands : List ℕ) (tolerance : ℕ) → Call
+
+-- the table that a call leaves, done, refused or stopped partway
+abbrev pub after : Layer → List ℕ → Call → List ℕ
+after L t trace = traceOf L t .table
+after L t (read sheet) = readOf L t (sheet .bytes) .table
+after L t (smooth limit) = smoothOf L limit t .table
+after L t (simplify tolerance) = simplifyOf L tolerance t .table
+after L t (roll commands tolerance) = rollOf L tolerance commands t .table
+
+-- the table after a list of calls
+abbrev pub afterAll : Layer → List ℕ → List Call → List ℕ
+afterAll L t calls = foldl (after L) t calls
+
+-- "an accepted Trace or sheet reading": the calls that may open a list, and that one was accepted on the table t
+pub data Opening : Type 0 where
+  byTrace : Opening
+  bySheet : Sheet → Opening
+
+abbrev pub Accepted : Layer → List ℕ → Opening → Type 0
+Accepted L t byTrace = traceOf L t .refusal ≡ 0
+Accepted L t (bySheet sheet) = readOf L t (sheet .bytes) .refusal ≡ 0
+
+abbrev pub opened : Layer → List ℕ → Opening → List ℕ
+opened L t byTrace = traceOf L t .table
+opened L t (bySheet sheet) = readOf L t (sheet .bytes) .table
+
+-- Demand 3: after every list of calls the layer is faithful, that is, its contours are closed and apart, and pass between two adjacent
+-- samples once where these differ and never where they agree. proofs/Guarantee.antt proves it.
+abbrev pub Guarantee : Type 0
+Guarantee = (L : Layer) (t : List ℕ) (opening : Opening) → Accepted L t opening → (calls : List Call)
+    → Faithful L (afterAll L (opened L t opening) calls)

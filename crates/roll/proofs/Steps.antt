@@ -1,0 +1,237 @@
+-- One command after the other: what a step comes to, that a roll that passes question 8 goes on from step to step up to its end, and that each
+-- step leaves the table accepted.
+use mathlib.Core.Path.{_≡_, refl, sym, _∙_, ap, subst}
+use mathlib.Core.List.{List}
+use Prim.Native.Nat.{ℕ, zero, suc, _+_, _≤_, _<_}
+use native.Mathlib.Decide.{decLt}
+use native.Mathlib.Omega.{arith}
+use lib.ListN.{length, getD}
+use Rattle.grid.specs.Layer.{Layer}
+use Rattle.grid.specs.Questions.{ifAllYes, numberOf}
+use Rattle.grid.specs.declared.question.Refusal.{Refusal}
+use Rattle.grid.specs.declared.question.Refusal.the-variants.{Malformed}
+use Rattle.grid.specs.declared.question.Answer.{Answer}
+use Rattle.grid.specs.declared.question.Answer.the-variants.{Yes, No}
+use Rattle.grid.proofs.Answers.{no-not-yes}
+use Rattle.held.specs.Questions.{Accepted}
+use Rattle.roll.specs.declared.rolling.Rolled.the-variants.{Done, Refused}
+use Rattle.roll.specs.declared.rolling.Step.{Step}
+use Rattle.roll.specs.declared.rolling.Step.the-variants.{On, End, Stop}
+use Rattle.roll.specs.Commands.{Named, Command, slides, removes, ends, wrong, commandAt, rollAnswer}
+use Rattle.roll.specs.Edits.{edgeNamed, slid, without, slideAnswer, removalAnswer}
+use Rattle.roll.specs.Chords.{storedIf}
+use Rattle.roll.specs.Steps.{Stepped, stepped, stepOn, stepBy, slideStep, removalStep, stepOf}
+use Rattle.roll.specs.Roll.{Outcome, outcome, runFrom}
+use Rattle.roll.proofs.Forms.{formedFrom, formed-all, formed-slide, formed-removal, formed-wrong, at-slide-cut, at-removal-cut, at-none}
+use Rattle.roll.proofs.Asked.{slide-keeps, removal-keeps}
+
+-- A step from an answer and a store
+
+step-by : (answer : Answer) (after : ℕ) (t t′ : List ℕ) {r : Step} {u : List ℕ} → r ≡ stepOn answer after → u ≡ storedIf answer t t′
+    → stepped r u ≡ stepBy answer after t t′
+step-by Yes after t t′ e s = λ i. stepped (e i) (s i)
+step-by (No q place) after t t′ e s = λ i. stepped (e i) (s i)
+
+module _ (L : Layer) (tolerance i : ℕ) (t : List ℕ) where
+  pub slide-step : {r : Step} {u : List ℕ} {s′ : Named} (x : Answer) (s : Named) (o : ℕ) → s′ ≡ s → x ≡ slideAnswer L tolerance t i s′ o
+      → r ≡ stepOn x (i + 7) → u ≡ storedIf x t (slid L t (edgeNamed s′) o) → stepped r u ≡ slideStep L tolerance i t s o
+  unfolding slideStep
+  slide-step {r} {u} {s′} x s o same asked e stored =
+      step-by x (i + 7) t (slid L t (edgeNamed s′) o) e stored
+      ∙ ap (λ (x : Answer). stepBy x (i + 7) t (slid L t (edgeNamed s′) o)) asked
+      ∙ ap (λ (s : Named). stepBy (slideAnswer L tolerance t i s o) (i + 7) t (slid L t (edgeNamed s) o)) same
+
+  pub removal-step : {r : Step} {u : List ℕ} {s′ : Named} (x : Answer) (s : Named) → s′ ≡ s → x ≡ removalAnswer L tolerance t i s′
+      → r ≡ stepOn x (i + 6) → u ≡ storedIf x t (without L t (edgeNamed s′)) → stepped r u ≡ removalStep L tolerance i t s
+  unfolding removalStep
+  removal-step {r} {u} {s′} x s same asked e stored =
+      step-by x (i + 6) t (without L t (edgeNamed s′)) e stored
+      ∙ ap (λ (x : Answer). stepBy x (i + 6) t (without L t (edgeNamed s′))) asked
+      ∙ ap (λ (s : Named). stepBy (removalAnswer L tolerance t i s) (i + 6) t (without L t (edgeNamed s))) same
+
+-- The command at a byte of a roll that passes question 8 from there on
+
+module _ (r : List ℕ) (i : ℕ) (formed : formedFrom r i ≡ Yes) where
+  not-wrong : commandAt r i ≡ wrong → ⊥
+  not-wrong w = no-not-yes Malformed i (formed-wrong r i w ∙ formed)
+
+  pub formed-below : i < length r
+  formed-below = elim (decLt i (length r)) [ yes h ↦ h | no h ↦ absurd (not-wrong (at-none r i (omega arith))) ]
+
+  pub slide-whole : getD r i 0 ≡ 0x53 → i + 7 ≤ length r
+  slide-whole b = elim (decLt (length r) (i + 7)) [ yes h ↦ absurd (not-wrong (at-slide-cut r i b h)) | no h ↦ omega arith ]
+
+  pub removal-whole : getD r i 0 ≡ 0x58 → i + 6 ≤ length r
+  removal-whole b = elim (decLt (length r) (i + 6)) [ yes h ↦ absurd (not-wrong (at-removal-cut r i b h)) | no h ↦ omega arith ]
+
+module _ (L : Layer) (tolerance : ℕ) (r : List ℕ) (i : ℕ) (t : List ℕ) where
+  abbrev by-command : Command → Stepped
+  by-command c = elim c [
+    | slides s o ↦ slideStep L tolerance i t s o
+    | removes s ↦ removalStep L tolerance i t s
+    | ends ↦ stepped End t
+    | wrong ↦ stepped (Stop Malformed i) t
+  ]
+
+  pub step-is : {c : Command} → commandAt r i ≡ c → by-command c ≡ stepOf L tolerance r i t
+  unfolding stepOf
+  step-is e = sym (ap by-command e)
+
+-- Fuel: as many commands as there are bytes left are enough
+
+module _ (L : Layer) (tolerance : ℕ) (r : List ℕ) where
+  abbrev pub refused : ℕ → List ℕ → Refusal → ℕ → Outcome
+  refused done t q place = record { refusal = numberOf q; place = place; done = done; table = t }
+
+  abbrev pub stopped : ℕ → List ℕ → Outcome
+  stopped done t = record { refusal = 0; place = 0; done = done; table = t }
+
+  -- what a command comes to, with `later` the outcome from a place on
+  abbrev pub run-by : ℕ → ℕ → List ℕ → (ℕ → List ℕ → Outcome) → Command → Outcome
+  run-by i done t later c = elim c [
+    | slides s o ↦ ifAllYes (slideAnswer L tolerance t i s o) (refused done t) (later (i + 7) (slid L t (edgeNamed s) o))
+    | removes s ↦ ifAllYes (removalAnswer L tolerance t i s) (refused done t) (later (i + 6) (without L t (edgeNamed s)))
+    | ends ↦ stopped done t
+    | wrong ↦ stopped done t
+  ]
+
+  run-same : (i done : ℕ) (t : List ℕ) (f g : ℕ → List ℕ → Outcome) → ((u : List ℕ) → f (i + 7) u ≡ g (i + 7) u) → ((u : List ℕ) → f (i + 6) u ≡ g (i + 6) u)
+      → (c : Command) → run-by i done t f c ≡ run-by i done t g c
+  run-same i done t f g h k (slides s o) =
+      ap (ifAllYes (slideAnswer L tolerance t i s o) (refused done t)) (h (slid L t (edgeNamed s) o))
+  run-same i done t f g h k (removes s) =
+      ap (ifAllYes (removalAnswer L tolerance t i s) (refused done t)) (k (without L t (edgeNamed s)))
+  run-same i done t f g h k ends = refl
+  run-same i done t f g h k wrong = refl
+
+  run-fuel : (n m i done : ℕ) (t : List ℕ) → length r < i + n → length r < i + m → runFrom L tolerance r n i done t ≡ runFrom L tolerance r m i done t
+  unfolding runFrom
+  run-fuel zero zero i done t h k = refl
+  run-fuel zero (suc m) i done t h k =
+      sym (ap (run-by i done t (λ j u. runFrom L tolerance r m j (done + 1) u)) (at-none r i (omega arith)))
+  run-fuel (suc n) zero i done t h k =
+      ap (run-by i done t (λ j u. runFrom L tolerance r n j (done + 1) u)) (at-none r i (omega arith))
+  run-fuel (suc n) (suc m) i done t h k =
+      run-same i done t (λ j u. runFrom L tolerance r n j (done + 1) u) (λ j u. runFrom L tolerance r m j (done + 1) u)
+      (λ u. run-fuel n m (i + 7) (done + 1) u (omega arith) (omega arith))
+      (λ u. run-fuel n m (i + 6) (done + 1) u (omega arith) (omega arith))
+      (commandAt r i)
+
+  -- the outcome of the commands from a place on
+  unfoldable pub ranFrom : ℕ → ℕ → List ℕ → Outcome
+  unfolding runFrom
+  ranFrom i done t = runFrom L tolerance r (length r + 1) i done t
+
+  -- by the step that the command at i makes
+  abbrev pub ran-after : ℕ → Stepped → Outcome
+  ran-after done x = elim (x .step) [
+    | On j ↦ ranFrom j (done + 1) (x .table)
+    | End ↦ stopped done (x .table)
+    | Stop q place ↦ refused done (x .table) q place
+  ]
+
+  ran-first : (i done : ℕ) (t : List ℕ) → ranFrom i done t ≡ run-by i done t (λ j u. ranFrom j (done + 1) u) (commandAt r i)
+  unfolding ranFrom
+  ran-first i done t = run-fuel (length r + 1) (suc (length r + 1)) i done t (omega arith) (omega arith)
+
+  pub ran-step : (i done : ℕ) (t : List ℕ) → formedFrom r i ≡ Yes → ranFrom i done t ≡ ran-after done (stepOf L tolerance r i t)
+  unfolding slideStep removalStep
+  ran-step i done t formed = ran-first i done t ∙ go (commandAt r i) refl
+    where
+      by : (answer : Answer) (j : ℕ) (t′ : List ℕ) → ifAllYes answer (refused done t) (ranFrom j (done + 1) t′) ≡ ran-after done (stepBy answer j t t′)
+      by Yes j t′ = refl
+      by (No q place) j t′ = refl
+
+      go : (c : Command) → commandAt r i ≡ c
+          → run-by i done t (λ j u. ranFrom j (done + 1) u) (commandAt r i) ≡ ran-after done (stepOf L tolerance r i t)
+      go (slides s o) e =
+          ap (run-by i done t (λ j u. ranFrom j (done + 1) u)) e ∙ by (slideAnswer L tolerance t i s o) (i + 7) (slid L t (edgeNamed s) o)
+          ∙ ap (ran-after done) (step-is L tolerance r i t e)
+      go (removes s) e =
+          ap (run-by i done t (λ j u. ranFrom j (done + 1) u)) e ∙ by (removalAnswer L tolerance t i s) (i + 6) (without L t (edgeNamed s))
+          ∙ ap (ran-after done) (step-is L tolerance r i t e)
+      go ends e = ap (run-by i done t (λ j u. ranFrom j (done + 1) u)) e ∙ ap (ran-after done) (step-is L tolerance r i t e)
+      go wrong e = absurd (not-wrong r i formed e)
+
+-- A step that goes on leaves the table accepted and the rest of the roll well formed
+
+-- what is known after such a step
+pub record WentOn (L : Layer) (r : List ℕ) (i j : ℕ) (t : List ℕ) : Type 0 where
+  pub accepted : Accepted L t
+  pub formed : formedFrom r j ≡ Yes
+  pub further : i < j
+
+stop-not-on : {q : Refusal} {place j : ℕ} → Stop q place ≡ On j → ⊥
+stop-not-on s = let z : _≡_ {A = ℕ} 0 1 = cc in omega arith
+
+end-not-on : {j : ℕ} → End ≡ On j → ⊥
+end-not-on s = let z : _≡_ {A = ℕ} 0 1 = cc in omega arith
+
+module _ {j : ℕ} {t′ : List ℕ} where
+  on-yes : (answer : Answer) (after : ℕ) (t u : List ℕ) → stepBy answer after t u ≡ stepped (On j) t′ → (answer ≡ Yes) × (after ≡ j) × (u ≡ t′)
+  on-yes Yes after t u h = (refl, (let s : On after ≡ On j = ap (λ (x : Stepped). x .step) h in cc), ap (λ (x : Stepped). x .table) h)
+  on-yes (No q place) after t u h = absurd (stop-not-on (ap (λ (x : Stepped). x .step) h))
+
+  pub step-on : (L : Layer) (tolerance : ℕ) (r : List ℕ) (i : ℕ) (t : List ℕ) → Accepted L t → formedFrom r i ≡ Yes
+      → stepOf L tolerance r i t ≡ stepped (On j) t′ → WentOn L r i j t′
+  unfolding slideStep removalStep
+  step-on L tolerance r i t accepted formed h = go (commandAt r i) refl
+    where
+      made : (answer : Answer) (after : ℕ) (u : List ℕ) → stepBy answer after t u ≡ stepped (On j) t′ → i < after
+          → (answer ≡ Yes → Accepted L u) → formedFrom r after ≡ formedFrom r i → WentOn L r i j t′
+      made answer after u s less keeps same =
+          let b = on-yes answer after t u s in
+          record {
+            accepted = subst (Accepted L) (b .2) (keeps (b .0));
+            formed = ap (formedFrom r) (sym (b .1)) ∙ same ∙ formed;
+            further = omega (arith, b .1, less);
+          }
+
+      go : (c : Command) → commandAt r i ≡ c → WentOn L r i j t′
+      go (slides s o) e =
+          made (slideAnswer L tolerance t i s o) (i + 7) (slid L t (edgeNamed s) o) (step-is L tolerance r i t e ∙ h) (omega arith)
+          (slide-keeps L t accepted s tolerance i o) (formed-slide r i e)
+      go (removes s) e =
+          made (removalAnswer L tolerance t i s) (i + 6) (without L t (edgeNamed s)) (step-is L tolerance r i t e ∙ h) (omega arith)
+          (removal-keeps L t accepted s tolerance i) (formed-removal r i e)
+      go ends e = absurd (end-not-on (ap (λ (x : Stepped). x .step) (step-is L tolerance r i t e ∙ h)))
+      go wrong e = absurd (not-wrong r i formed e)
+
+-- A roll that is run: some commands are done, and the outcome from here on is that of the whole roll
+
+pub record Running (L : Layer) (tolerance : ℕ) (r : List ℕ) (t₀ t : List ℕ) (at done : ℕ) : Type 0 where
+  pub accepted : Accepted L t
+  pub formed : formedFrom r at ≡ Yes
+  pub few : done ≤ at
+  pub same : ranFrom L tolerance r at done t ≡ ranFrom L tolerance r 0 0 t₀
+
+module _ (L : Layer) (tolerance : ℕ) (r : List ℕ) (t₀ : List ℕ) where
+  pub running-start : Accepted L t₀ → rollAnswer r ≡ Yes → Running L tolerance r t₀ t₀ 0 0
+  running-start accepted passed = record { accepted = accepted; formed = formed-all r ∙ passed; few = omega arith; same = refl }
+
+  module _ {t : List ℕ} {at done : ℕ} (running : Running L tolerance r t₀ t at done) (x : Step) (u : List ℕ)
+      (is : stepped x u ≡ stepOf L tolerance r at t) where
+    here : ran-after L tolerance r done (stepped x u) ≡ ranFrom L tolerance r 0 0 t₀
+    here =
+        ap (ran-after L tolerance r done) is ∙ sym (ran-step L tolerance r at done t (running .formed)) ∙ running .same
+
+    pub running-end : x ≡ End → outcome (Done done) u ≡ ranFrom L tolerance r 0 0 t₀
+    running-end e = ap (λ (y : Step). ran-after L tolerance r done (stepped y u)) (sym e) ∙ here
+
+    pub running-stop : {q : Refusal} {place : ℕ} → x ≡ Stop q place → outcome (Refused q place done) u ≡ ranFrom L tolerance r 0 0 t₀
+    running-stop e = ap (λ (y : Step). ran-after L tolerance r done (stepped y u)) (sym e) ∙ here
+
+    module _ {j : ℕ} (e : x ≡ On j) where
+      went : WentOn L r at j u
+      went = step-on L tolerance r at t (running .accepted) (running .formed) (sym is ∙ ap (λ (y : Step). stepped y u) e)
+
+      pub running-further : (at < j) × (j < length r)
+      running-further = (went .further, formed-below r j (went .formed))
+
+      pub running-on : Running L tolerance r t₀ u j (done + 1)
+      running-on = record {
+        accepted = went .accepted;
+        formed = went .formed;
+        few = omega (arith, went .further, running .few);
+        same = ap (λ (y : Step). ran-after L tolerance r done (stepped y u)) (sym e) ∙ here;
+      }

@@ -1,0 +1,71 @@
+-- One edit of a roll: questions 9 to 13, and the table after it. "An accepted edit writes the named stick's entry and no other."
+use mathlib.Core.Bool.{Bool, _&&_}
+use mathlib.Core.List.{List, [], _∷_}
+use Prim.Native.Nat.{ℕ, _+_}
+use lib.Dec.{eqb, leb}
+use lib.ListN.{set}
+use Rattle.grid.specs.Layer.{Layer}
+use Rattle.grid.specs.Edges.{number, inGrid}
+use Rattle.grid.specs.Questions.{firstNo}
+use Rattle.grid.specs.declared.edge.Edge.{Edge}
+use Rattle.grid.specs.declared.question.Refusal.{Refusal}
+use Rattle.grid.specs.declared.question.Refusal.the-variants as Refusal
+use Rattle.grid.specs.declared.question.Answer.{Answer}
+use Rattle.contour.specs.Contours.{contourOf}
+use Rattle.chord.specs.Crossing.{slidesWithin}
+use Rattle.table.specs.Vertices.{keptAt, offsetAt, gapAfter, nextKept, previousKept}
+use Rattle.held.specs.Held.{each, among, vertex, edgeCrosses}
+use Rattle.roll.specs.Commands.{Named, askAt}
+
+-- the edge that a command names: "(a kind above 1 does not)" lie in the grid, which question 9 asks first
+abbrev pub edgeNamed : Named → Edge
+edgeNamed s = record { vertical = eqb (s .kind) 1; column = s .column; row = s .row }
+
+-- the vertices removed under the drawn edge that starts at the kept vertex of e would slide at most T to it, from their stored offsets
+unfoldable pub edgeWithin : Layer → List ℕ → ℕ → Edge → Bool
+edgeWithin L t tolerance e =
+    each (λ u. slidesWithin tolerance (vertex L t e) (vertex L t (nextKept L t e)) u (offsetAt L t u)) (gapAfter L t e)
+
+-- "9. Does the named stick lie in the grid (a kind above 1 does not) and carry a kept vertex?"
+abbrev pub carriesKept : Layer → List ℕ → Named → Bool
+carriesKept L t s = leb (s .kind) 1 && inGrid (L .size) (edgeNamed s) && keptAt L t (edgeNamed s)
+
+-- "10. Is the new offset 1 to 255?"
+abbrev pub goodOffset : ℕ → Bool
+goodOffset o = leb 1 o && leb o 255
+
+-- the table with the vertex of e slid to an offset, and with it removed at the offset it has
+abbrev pub slid : Layer → List ℕ → Edge → ℕ → List ℕ
+slid L t e o = set t (number (L .size) e) o
+
+abbrev pub without : Layer → List ℕ → Edge → List ℕ
+without L t e = set t (number (L .size) e) (256 + offsetAt L t e)
+
+module _ (L : Layer) (tolerance : ℕ) (t : List ℕ) (place : ℕ) where
+  -- "A slide redraws the two edges at that vertex. Each redrawn edge is tested as a chord with T.": those that start at the kept vertex
+  -- before it and at the vertex itself, as they are after the slide
+  unfoldable pub slideAnswer : Named → ℕ → Answer
+  slideAnswer s o =
+      let e : Edge = edgeNamed s in
+      let before : Edge = previousKept L t e in
+      firstNo (
+      askAt place Refusal.NoKeptVertex (carriesKept L t s)
+      ∷ askAt place Refusal.BadOffset (goodOffset o)
+      ∷ askAt place Refusal.NoCrossing (edgeCrosses L (slid L t e o) before && edgeCrosses L (slid L t e o) e)
+      ∷ askAt place Refusal.BeyondTolerance (edgeWithin L (slid L t e o) tolerance before && edgeWithin L (slid L t e o) tolerance e)
+      ∷ []
+      )
+
+  -- "Removal joins the two kept neighbours.": the redrawn edge starts at the kept vertex before, and passes the removed one, "the one being
+  -- removed included"
+  unfoldable pub removalAnswer : Named → Answer
+  removalAnswer s =
+      let e : Edge = edgeNamed s in
+      let before : Edge = previousKept L t e in
+      firstNo (
+      askAt place Refusal.NoKeptVertex (carriesKept L t s)
+      ∷ askAt place Refusal.NoCrossing (edgeCrosses L (without L t e) before)
+      ∷ askAt place Refusal.BeyondTolerance (edgeWithin L (without L t e) tolerance before)
+      ∷ askAt place Refusal.TooFewKept (leb 3 (among (keptAt L (without L t e)) (contourOf L e)))
+      ∷ []
+      )

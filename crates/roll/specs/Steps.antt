@@ -1,0 +1,42 @@
+-- One command of a roll as the code takes it: what it comes to, and the table after it. Roll.antt has the commands one after the other.
+use mathlib.Core.List.{List}
+use Prim.Native.Nat.{ℕ, _+_}
+use Rattle.grid.specs.Layer.{Layer}
+use Rattle.grid.specs.Questions.{ifAllYes}
+use Rattle.grid.specs.declared.question.Refusal.the-variants.{Malformed}
+use Rattle.grid.specs.declared.question.Answer.{Answer}
+use Rattle.roll.specs.declared.rolling.Step.{Step}
+use Rattle.roll.specs.declared.rolling.Step.the-variants.{On, End, Stop}
+use Rattle.roll.specs.Commands.{Named, commandAt, slides, removes, ends, wrong}
+use Rattle.roll.specs.Edits.{edgeNamed, slid, without, slideAnswer, removalAnswer}
+
+pub record Stepped : Type 0 where
+  pub step : Step
+  pub table : List ℕ
+
+abbrev pub stepped : Step → List ℕ → Stepped
+stepped step t = record { step = step; table = t }
+
+-- on to the next command after a yes, else the refusal
+abbrev pub stepOn : Answer → ℕ → Step
+stepOn answer after = ifAllYes answer (λ q place. Stop q place) (On after)
+
+-- the same with the table t, which is t′ after a yes
+abbrev pub stepBy : Answer → ℕ → List ℕ → List ℕ → Stepped
+stepBy answer after t t′ = ifAllYes answer (λ q place. stepped (Stop q place) t) (stepped (On after) t′)
+
+module _ (L : Layer) (tolerance i : ℕ) (t : List ℕ) where
+  unfoldable pub slideStep : Named → ℕ → Stepped
+  slideStep s o = stepBy (slideAnswer L tolerance t i s o) (i + 7) t (slid L t (edgeNamed s) o)
+
+  unfoldable pub removalStep : Named → Stepped
+  removalStep s = stepBy (removalAnswer L tolerance t i s) (i + 6) t (without L t (edgeNamed s))
+
+-- the command at byte i
+unfoldable pub stepOf : Layer → ℕ → List ℕ → ℕ → List ℕ → Stepped
+stepOf L tolerance r i t = elim (commandAt r i) [
+  | slides s o ↦ slideStep L tolerance i t s o
+  | removes s ↦ removalStep L tolerance i t s
+  | ends ↦ stepped End t
+  | wrong ↦ stepped (Stop Malformed i) t
+]
