@@ -2,7 +2,7 @@
 -- the nearest; a fraction with a denominator above 0; casts. What fits a machine integer is read off by `Rattle.arith.specs.Bounds`.
 use mathlib.Core.Path.{_≡_, refl, sym, ap, ap₂, subst, _∙_}
 use mathlib.Core.Bool.{true, false, true≢false, false≢true}
-use Prim.Native.Nat.{ℕ, suc, _+_, _*_, _/_, _≤_, _<_}
+use Prim.Native.Nat.{ℕ, _+_, _*_, _/_, _≤_, _<_}
 use native.Mathlib.Nat.{add-div-right, div-le-self, mul-le-mul}
 use native.Mathlib.Omega.{arith}
 use lib.Dec.{T}
@@ -15,18 +15,10 @@ use Rattle.arith.specs.Nearest.{floorDiv, nearest}
 use Rattle.arith.specs.Bounds.{Sized, ok, pure, exact, natAbs-neg}
 use Rattle.smooth.specs.Offset.{rounded, upon}
 
--- a number above 0 is no zero divisor, and is its size
+-- a number above 0 is no zero divisor
 pub above-bits : (w : Width) (m : ℤ) → pos 0 <ℤ m → 0 < ofZ w m
 above-bits w (pos n) h = omega arithℤ
 above-bits w (negsuc n) h = absurd (h .lt)
-
-pub above-size : (m : ℤ) → pos 0 <ℤ m → pos (natAbs m) ≡ m
-above-size (pos n) h = refl
-above-size (negsuc n) h = absurd (h .lt)
-
-pub above-some : (m : ℤ) → pos 0 <ℤ m → 0 < natAbs m
-above-some (pos n) h = omega arithℤ
-above-some (negsuc n) h = absurd (h .lt)
 
 -- a quotient that is not below 0 is rounded down by the machine
 pub floor-up : (t m : ℤ) → pos 0 <ℤ m → leZ (pos 0) t ≡ true → quotZ t m ≡ floorDiv t (natAbs m)

@@ -5,11 +5,8 @@ use mathlib.Core.List.{List}
 use Prim.Native.Nat.{ℕ, suc, _+_, _-_, _≤_, _<_}
 use native.Mathlib.Omega.{arith}
 use lib.Dec.{eqb}
-use Rattle.arith.specs.Ranges.{count-le}
 use Rattle.grid.specs.Layer.{Layer}
-use Rattle.grid.specs.Edges.{edgeCount, stickAt}
 use Rattle.grid.specs.Questions.{Sound}
-use Rattle.grid.proofs.Numbers.{edges-small}
 use Rattle.table.proofs.AllKept.{AllKept}
 use Rattle.smooth.specs.Smooth.{Pass, passed, pass, vertexCount, isSettled, Smoothed, further, until, smooth}
 use Rattle.smooth.proofs.Passes.{smooth-is, further-is, until-none, until-settled, until-more, pass-kept}
@@ -17,9 +14,6 @@ use Rattle.smooth.proofs.Sizes.{total-most}
 
 abbrev pub standing : List ℕ → ℕ → ℕ → Bool → Smoothed
 standing t passes total settled = record { table = t; passes = passes; total = total; settled = settled }
-
-pub vertices-most : (L : Layer) → Sound L → vertexCount L ≤ 2095104
-vertices-most L sound = omega (arith, count-le (stickAt L) (edgeCount (L .size)), edges-small (L .size) (sound .whole .sized))
 
 -- after these passes, the passes that the limit leaves come to the whole
 pub record Smoothing (L : Layer) (limit : ℕ) (t₀ t : List ℕ) (passes total : ℕ) (settled : Bool) : Type 0 where

@@ -28,8 +28,6 @@ Past false e p = across e p < line e
 -- the position is in a cell beside the edge, off the edge's line
 pub record Beside (upper : Bool) (e : Edge) (p : Position) : Type 0 where
   pub past : Past upper e p
-  pub near-above : across e p ≤ line e + 256
-  pub near-below : line e ≤ across e p + 256
   pub from : base e ≤ along e p
   pub to : along e p ≤ base e + 256
 

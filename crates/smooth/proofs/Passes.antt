@@ -1,5 +1,5 @@
 -- Passes and smoothing on a sound layer whose vertices are all kept: they keep the table's length, every entry off the sticks that they
--- visit, and every vertex kept at an offset of 1 to 255. So nothing is removed, and questions 6 and 15 pass again.
+-- visit, and every vertex kept at an offset of 1 to 255. So nothing is removed.
 use mathlib.Core.Path.{_≡_, refl, sym, _∙_, ap}
 use mathlib.Core.Bool.{Bool, true, false, true≢false}
 use mathlib.Core.List.{List, [], _∷_, foldl}
@@ -11,17 +11,14 @@ use Rattle.grid.specs.Layer.{Layer}
 use Rattle.grid.specs.Edges.{isStick}
 use Rattle.grid.specs.Questions.{Sound}
 use Rattle.grid.specs.declared.edge.Edge.{Edge}
-use Rattle.grid.specs.declared.question.Answer.the-variants.{Yes}
 use Rattle.contour.specs.Walk.{occurrences, walked}
 use Rattle.contour.specs.Contours.{walkOf, contoursOf}
 use Rattle.contour.proofs.Sticks.{laws}
 use Rattle.contour.proofs.Outer.{foldl-flatten}
 use Rattle.contour.proofs.Contours.{walked-one}
 use Rattle.contour.proofs.Theorems.{total-length}
-use Rattle.table.specs.Entries.{entriesAnswer}
-use Rattle.table.specs.Kept.{allKeptAnswer}
 use Rattle.smooth.specs.Smooth.{Pass, visit, passContour, pass, vertexCount, isSettled, Smoothed, unsmoothed, further, until, smooth}
-use Rattle.table.proofs.AllKept.{AllKept, passes-entries, passes-all-kept}
+use Rattle.table.proofs.AllKept.{AllKept}
 use Rattle.smooth.proofs.Steps.{visit-kept, visit-total}
 
 -- what a pass is made of: what a loop over contours cites
@@ -145,10 +142,3 @@ module _ (L : Layer) (sound : Sound L) where
   smooth-kept limit t kept =
       rw (smooth-is L limit t)
       (until-keeps (pass L) (vertexCount L) (AllKept L) pass-kept limit (unsmoothed (vertexCount L) t) kept)
-
-  -- so questions 6 and 15 pass again
-  pub smooth-entries : (limit : ℕ) (t : List ℕ) → AllKept L t → entriesAnswer L (smooth L limit t .table) ≡ Yes
-  smooth-entries limit t kept = passes-entries L (smooth L limit t .table) (smooth-kept limit t kept) (sound .whole .sized)
-
-  pub smooth-all-kept : (limit : ℕ) (t : List ℕ) → AllKept L t → allKeptAnswer (L .size) (smooth L limit t .table) ≡ Yes
-  smooth-all-kept limit t kept = passes-all-kept L (smooth L limit t .table) (smooth-kept limit t kept) (sound .whole .sized)

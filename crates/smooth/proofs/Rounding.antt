@@ -1,13 +1,13 @@
 -- The rounding of the new offset, by what it must do: it gives the nearest whole number, a half goes up, it does not depend on how the fraction
 -- is written, and an offset of 1 to 255 drawn to a v of 0 to 256 stays 1 to 255. Of these only the last two are used elsewhere.
-use mathlib.Core.Path.{_≡_, refl, sym}
+use mathlib.Core.Path.{_≡_, sym}
 use Prim.Native.Nat.{ℕ, _*_, _≤_, _<_}
 use native.Mathlib.Nat.{mul-le-mul-right}
 use native.Mathlib.Omega.{arith}
 use lib.IntN.{ℤ, pos, negℤ, natAbs, _+ℤ_, _-ℤ_, _*ℤ_}
 use lib.Signed.{_≤ℤ_, _<ℤ_}
 use Rattle.arith.specs.Integers.{ints, at, viaℕ, toℕ, arithℤ, add-parts, natAbs-parts, *ℤ-mono, *ℤ-cancel-<, *ℤ-cancel-≤}
-use Rattle.arith.specs.Nearest.{nearest, Near, nearest-is, nearest-only}
+use Rattle.arith.specs.Nearest.{Near, nearest-is, nearest-only}
 use Rattle.smooth.specs.Offset.{rounded}
 
 twice-size : (y : ℤ) (m : ℕ) → negℤ (pos m) ≤ℤ (pos 2 *ℤ y) → (pos 2 *ℤ y) ≤ℤ pos m → 2 * natAbs y ≤ m
@@ -16,10 +16,6 @@ twice-size y m l u = omega (arith, natAbs-parts y, toℕ l (search (ints, at y))
 -- old + 2/5 of n / d, over 5·d
 abbrev pub drawn : ℕ → ℤ → ℕ → ℤ
 drawn old n d = pos (5 * d * old) +ℤ pos 2 *ℤ n
-
-pub rounded-is : (old : ℕ) (n : ℤ) (d : ℕ) → rounded old n d ≡ nearest (drawn old n d) (5 * d)
-unfolding rounded
-rounded-is old n d = refl
 
 module _ (old : ℕ) (n : ℤ) (d : ℕ) (some : 0 < d) where
   rounded-near : Near (drawn old n d) (5 * d) (rounded old n d)

@@ -7,7 +7,7 @@ use chord::base_of;
 use chord::line_of;
 use grid::Edge;
 ghost use mathlib.Core.Path.{_≡_};
-ghost use Prim.Native.Nat.{_≤_, _<_};
+ghost use Prim.Native.Nat.{_^_, _≤_};
 ghost use lib.IntN.{pos, natAbs};
 ghost use lib.Signed.{_<ℤ_};
 ghost use Rattle.arith.specs.Nearest.{floorDiv, nearest};
@@ -16,22 +16,22 @@ ghost use Rattle.smooth.specs.Offset.{rounded, spread, shift, upon, newO
 
 // t / m for an m above 0, rounded down.
 fn floor_div(t: i64, m: i64) -> i64
-    requires { ⌜ natAbs t ≤ 17592186044416 ⌝ }
-    requires { ⌜ natAbs m ≤ 17592186044416 ⌝ }
+    requires { ⌜ natAbs t ≤ 2 ^ 44 ⌝ }
+    requires { ⌜ natAbs m ≤ 2 ^ 44 ⌝ }
     requires { ⌜ pos 0 <ℤ m ⌝ }
     ensures { λ r. ⌜ r ≡ floorDiv t (natAbs m) ⌝ }
-    ensures { λ r. ⌜ natAbs r ≤ 17592186044416 ⌝ }
+    ensures { λ r. ⌜ natAbs r ≤ 2 ^ 44 ⌝ }
 {
     if t >= 0 { t / m } else { 0 - (m - 1 - t) / m }
 }
 
 // n / d for a d above 0, rounded to the nearest whole number, a half upward.
 fn nearest_div(n: i64, d: i64) -> i64
-    requires { ⌜ natAbs n ≤ 4398046511104 ⌝ }
-    requires { ⌜ natAbs d ≤ 4398046511104 ⌝ }
+    requires { ⌜ natAbs n ≤ 2 ^ 42 ⌝ }
+    requires { ⌜ natAbs d ≤ 2 ^ 42 ⌝ }
     requires { ⌜ pos 0 <ℤ d ⌝ }
     ensures { λ r. ⌜ r ≡ nearest n (natAbs d) ⌝ }
-    ensures { λ r. ⌜ natAbs r ≤ 17592186044416 ⌝ }
+    ensures { λ r. ⌜ natAbs r ≤ 2 ^ 44 ⌝ }
 {
     floor_div(2 * n + d, 2 * d)
 }
@@ -61,7 +61,7 @@ fn shift_of(p: Position, q: Position, e: Edge, old: u8) -> i64
     requires { ⌜ Near q ⌝ }
     requires { ⌜ NearEdge e ⌝ }
     ensures { λ r. ⌜ r ≡ shift p q e old ⌝ }
-    ensures { λ r. ⌜ natAbs r ≤ 1099511627776 ⌝ }
+    ensures { λ r. ⌜ natAbs r ≤ 2 ^ 40 ⌝ }
 {
     let from = signed(along_of(e, p));
     let ahead = from - signed(base_of(e)) - old as i64;
@@ -80,21 +80,21 @@ fn size_of(d: i64) -> i64
 }
 
 fn signed_by(n: i64, d: i64) -> i64
-    requires { ⌜ natAbs n ≤ 1099511627776 ⌝ }
+    requires { ⌜ natAbs n ≤ 2 ^ 40 ⌝ }
     requires { ⌜ natAbs d ≤ 524288 ⌝ }
     ensures { λ r. ⌜ r ≡ upon n d ⌝ }
-    ensures { λ r. ⌜ natAbs r ≤ 1099511627776 ⌝ }
+    ensures { λ r. ⌜ natAbs r ≤ 2 ^ 40 ⌝ }
 {
     if d < 0 { 0 - n } else { n }
 }
 
 // old + 2/5 of n / d, rounded.
 fn rounded_of(old: u8, n: i64, d: i64) -> i64
-    requires { ⌜ natAbs n ≤ 1099511627776 ⌝ }
+    requires { ⌜ natAbs n ≤ 2 ^ 40 ⌝ }
     requires { ⌜ natAbs d ≤ 524288 ⌝ }
     requires { ⌜ pos 0 <ℤ d ⌝ }
     ensures { λ r. ⌜ r ≡ rounded old n (natAbs d) ⌝ }
-    ensures { λ r. ⌜ natAbs r ≤ 17592186044416 ⌝ }
+    ensures { λ r. ⌜ natAbs r ≤ 2 ^ 44 ⌝ }
 {
     nearest_div(5 * d * old as i64 + 2 * n, 5 * d)
 }

@@ -1,6 +1,5 @@
 -- `new_offset` meets its contract.
 use mathlib.Core.Path.{_≡_, sym, ap, _∙_}
-use native.Mathlib.Omega.{arith}
 use borrow.Author.Needs.{needs}
 use lib.IntN.{ℤ, pos, natAbs}
 use lib.Signed.{_<ℤ_}

@@ -1,5 +1,5 @@
 -- `smooth_until` meets its contract.
-use mathlib.Core.Path.{_≡_, sym, ap, _∙_}
+use mathlib.Core.Path.{sym, ap, _∙_}
 use Prim.Native.Nat.{_-_}
 use native.Mathlib.Omega.{arith}
 use Rattle.grid.specs.Layer.{layerOf}
@@ -7,7 +7,8 @@ use Rattle.smooth.specs.Smooth.{isSettled}
 use Rattle.smooth.specs.Call.{doneWith}
 use Rattle.smooth.proofs.Walking.{ready-kept}
 use Rattle.smooth.proofs.Rounds.{kept-ready}
-use Rattle.smooth.proofs.Limits.{vertices-most, Smoothing, smoothing-start, smoothing-most, smoothing-turn, smoothing-limit, smoothing-settled}
+use Rattle.smooth.proofs.Sizes.{vertices-most}
+use Rattle.smooth.proofs.Limits.{Smoothing, smoothing-start, smoothing-most, smoothing-turn, smoothing-limit, smoothing-settled}
 use Rattle.smooth.proofs.smoothing.smooth_until.Statement.{statement}
 use Rattle.smooth.proofs.smoothing.smooth_until.Tie as tie
 
