@@ -33,7 +33,7 @@ use Rattle.table.specs.Vertices.{keptAt, removedAt, removedFrom, gapAfter}
 use Rattle.table.proofs.Gaps.{gap-over, gap-here}
 use Rattle.table.proofs.Lengths.{lengths-of}
 use Rattle.held.specs.Held.{each, among, edgeCrosses, heldContour, heldAnswer, firstUnheld}
-use Rattle.held.specs.Questions.{heldQuestions, keptQuestions, Accepted}
+use Rattle.held.specs.Questions.{entryQuestions, heldQuestions, keptQuestions, Accepted}
 
 -- an edge of the grid is one of the largest layer
 pub in-grid-near : (size : Size) → Sized size → (e : Edge) → inGrid size e ≡ true → NearEdge e
@@ -168,15 +168,20 @@ module _ (L : Layer) (sound : Sound L) (t s : List ℕ) (set : FirstSet L s) (n 
   pub ask-end : kindStart (L .size) true ≤ n → Yes ≡ firstUnheld L t (firstsFrom (walkOf L) n)
   ask-end l = sym (ap (firstUnheld L t) (firsts-end L sound s set n l))
 
--- What a yes to questions 1 to 7 says
+-- What a yes to questions 1 to 6 says, and to 1 to 7
+
+pub six-of : (L : Layer) (t : List ℕ) → firstNo (entryQuestions L t) ≡ Yes
+    → Sound L × (length t ≡ edgeCount (L .size)) × (entriesAnswer L t ≡ Yes)
+six-of L t e =
+    let both = append-all (lengthQuestions L (length t)) (entriesAnswer L t ∷ []) e in
+    let lengths = lengths-of L (length t) (both .0) in
+    (lengths .0, lengths .1, firstNo-yes (entriesAnswer L t) [] (both .1) .0)
 
 pub accepted-of : (L : Layer) (t : List ℕ) → firstNo (heldQuestions L t) ≡ Yes → Accepted L t
 accepted-of L t e =
-    let both = append-all (lengthQuestions L (length t)) (entriesAnswer L t ∷ heldAnswer L t ∷ []) e in
-    let lengths = lengths-of L (length t) (both .0) in
-    let six = firstNo-yes (entriesAnswer L t) (heldAnswer L t ∷ []) (both .1) in
-    let seven = firstNo-yes (heldAnswer L t) [] (six .1) in
-    record { sound = lengths .0; exact = lengths .1; entries = six .0; held = seven .0 }
+    let both = append-all (entryQuestions L t) (heldAnswer L t ∷ []) e in
+    let six = six-of L t (both .0) in
+    record { sound = six .0; exact = six .1; entries = six .2; held = firstNo-yes (heldAnswer L t) [] (both .1) .0 }
 
 -- what a yes to 1 to 7 and 15 says
 pub kept-of-yes : (L : Layer) (t : List ℕ) → firstNo (keptQuestions L t) ≡ Yes → Accepted L t × (allKeptAnswer (L .size) t ≡ Yes)

@@ -6,10 +6,11 @@ use mathlib.Core.List.{List, [], _∷_}
 use Prim.Native.Nat.{ℕ, _<_}
 use native.Mathlib.Omega.{arith}
 use borrow.Author.Tests.{le-leb}
+use lib.ListN.{length}
 use Rattle.arith.specs.Booleans.{asNumber, both-sides}
 use Rattle.grid.specs.Layer.{Layer}
-use Rattle.grid.specs.Edges.{isStick}
-use Rattle.grid.specs.Questions.{Sound}
+use Rattle.grid.specs.Edges.{isStick, edgeCount}
+use Rattle.grid.specs.Questions.{firstNo, Sound}
 use Rattle.grid.specs.declared.edge.Edge.{Edge}
 use Rattle.grid.specs.declared.question.Answer.the-variants.{Yes}
 use Rattle.contour.specs.Walk.{first, occurrences, On}
@@ -18,8 +19,10 @@ use Rattle.contour.proofs.First.{first-one}
 use Rattle.contour.proofs.Members.{on-one, on-self}
 use Rattle.contour.proofs.Sticks.{laws, same-self}
 use Rattle.contour.proofs.Theorems.{first-sticks-only}
+use Rattle.table.specs.Entries.{entriesAnswer}
+use Rattle.table.specs.Kept.{allKeptAnswer}
 use Rattle.table.specs.Vertices.{keptAt, removedAt}
-use Rattle.table.proofs.AllKept.{AllKept, not-removed, passes-entries}
+use Rattle.table.proofs.AllKept.{AllKept, all-kept-of, not-removed, passes-entries}
 use Rattle.held.specs.Held.{each, among, edgeCrosses, heldContour, firstUnheld, heldAnswer}
 use Rattle.held.specs.Questions.{Accepted}
 use Rattle.held.specs.Faithful.{Drawn}
@@ -76,3 +79,9 @@ all-kept-accepted L t sound kept =
       entries = yes-6;
       held = kept-held L t sound (vertices-of L t sound yes-6) (not-removed L t kept);
     }
+
+-- so where 15 is answered yes, 7 is too
+pub kept-yes : (L : Layer) (t : List ℕ) → Sound L → length t ≡ edgeCount (L .size) → entriesAnswer L t ≡ Yes → allKeptAnswer (L .size) t ≡ Yes
+    → Yes ≡ firstNo (heldAnswer L t ∷ allKeptAnswer (L .size) t ∷ [])
+kept-yes L t sound exact entries all-kept =
+    rw (all-kept-accepted L t sound (all-kept-of L t (sound .whole .sized) exact entries all-kept) .held, all-kept)

@@ -12,8 +12,12 @@ use Rattle.table.specs.Entries.{lengthQuestions, entriesAnswer}
 use Rattle.table.specs.Kept.{allKeptAnswer}
 use Rattle.held.specs.Held.{heldAnswer}
 
+-- questions 1 to 6, and 7 after them
+abbrev pub entryQuestions : Layer → List ℕ → List Answer
+entryQuestions L t = lengthQuestions L (length t) ++ (entriesAnswer L t ∷ [])
+
 abbrev pub heldQuestions : Layer → List ℕ → List Answer
-heldQuestions L t = lengthQuestions L (length t) ++ (entriesAnswer L t ∷ heldAnswer L t ∷ [])
+heldQuestions L t = entryQuestions L t ++ (heldAnswer L t ∷ [])
 
 -- 1 to 7, and "15. For Smooth and Simplify: is every vertex kept?"
 abbrev pub keptQuestions : Layer → List ℕ → List Answer

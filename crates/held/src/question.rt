@@ -7,14 +7,17 @@ use grid::Refusal;
 use grid::Size;
 use grid::edge_at;
 ghost use mathlib.Core.Path.{_≡_};
+ghost use mathlib.Core.List.{[], _∷_};
 ghost use lib.ListN.{length};
 ghost use Rattle.grid.specs.Layer.{layerOf};
 ghost use Rattle.grid.specs.Edges.{edgeCount};
 ghost use Rattle.grid.specs.Questions.{firstNo, Sound};
 ghost use Rattle.grid.specs.declared.question.Answer.the-variants.{Yes};
 ghost use Rattle.contour.specs.Sets.{Empty, FirstSet};
+ghost use Rattle.table.specs.Entries.{entriesAnswer};
+ghost use Rattle.table.specs.Kept.{allKeptAnswer};
 ghost use Rattle.held.specs.Held.{heldAnswer};
-ghost use Rattle.held.specs.Questions.{heldQuestions, keptQuestions};
+ghost use Rattle.held.specs.Questions.{entryQuestions, heldQuestions, keptQuestions};
 
 // Question 7, from the set of first sticks.
 fn ask_contours(size: Size, bitmap: &[u8], table: &[u16], set: &[u64; 16368]) -> Answer
@@ -34,16 +37,35 @@ fn ask_contours(size: Size, bitmap: &[u8], table: &[u16], set: &[u64; 16368]) ->
     Answer::Yes
 }
 
-// Question 7, of a layer that passed 1 to 5; the set is then that of its first sticks.
-fn ask_held(size: Size, bitmap: &[u8], table: &[u16], set: &mut [u64; 16368]) -> Answer
+// Questions 7 and 15, of a layer that passed 1 to 6. Where nothing is removed every drawn edge is a single link, so the layer is held: the
+// walk for question 7 is made only if 15 is answered no.
+fn ask_kept(size: Size, bitmap: &[u8], table: &[u16], set: &[u64; 16368]) -> Answer
     requires { ⌜ Sound (layerOf size (now bitmap)) ⌝ }
     requires { ⌜ length (now table) ≡ edgeCount size ⌝ }
-    requires { ⌜ Empty (now set) ⌝ }
-    ensures { λ r. ⌜ r ≡ heldAnswer (layerOf size (now (bitmap .entry))) (now (table .entry)) ⌝ }
-    ensures { λ r. ⌜ FirstSet (layerOf size (now (bitmap .entry))) (now (set .exit)) ⌝ }
+    requires { ⌜ entriesAnswer (layerOf size (now bitmap)) (now table) ≡ Yes ⌝ }
+    requires { ⌜ FirstSet (layerOf size (now bitmap)) (now set) ⌝ }
+    ensures { λ r. ⌜ r ≡ firstNo (heldAnswer (layerOf size (now (bitmap .entry))) (now (table .entry)) ∷ allKeptAnswer size (now (table .entry)) ∷ []) ⌝ }
 {
-    first_sticks(size, bitmap, set);
-    ask_contours(size, bitmap, table, set)
+    let kept = table::ask_all_kept(size, table);
+    if let Answer::Yes = kept {
+        return kept;
+    }
+    let held = ask_contours(size, bitmap, table, set);
+    let Answer::Yes = held else {
+        return held;
+    };
+    kept
+}
+
+// Questions 1 to 6.
+fn ask_six(size: Size, bitmap: &[u8], table: &[u16]) -> Answer
+    ensures { λ r. ⌜ r ≡ firstNo (entryQuestions (layerOf size (now (bitmap .entry))) (now (table .entry))) ⌝ }
+{
+    let lengths = table::ask_lengths(size, bitmap, table.len());
+    let Answer::Yes = lengths else {
+        return lengths;
+    };
+    table::ask_entries(size, bitmap, table)
 }
 
 // Questions 1 to 7. Where all are answered yes, the set is that of the first sticks, for what the call does next.
@@ -52,15 +74,12 @@ pub fn ask_held_firsts(size: Size, bitmap: &[u8], table: &[u16], set: &mut [u64;
     ensures { λ r. ⌜ r ≡ firstNo (heldQuestions (layerOf size (now (bitmap .entry))) (now (table .entry))) ⌝ }
     ensures { λ r. ⌜ (r ≡ Yes → FirstSet (layerOf size (now (bitmap .entry))) (now (set .exit))) ⌝ }
 {
-    let lengths = table::ask_lengths(size, bitmap, table.len());
-    let Answer::Yes = lengths else {
-        return lengths;
+    let six = ask_six(size, bitmap, table);
+    let Answer::Yes = six else {
+        return six;
     };
-    let entries = table::ask_entries(size, bitmap, table);
-    let Answer::Yes = entries else {
-        return entries;
-    };
-    ask_held(size, bitmap, table, set)
+    first_sticks(size, bitmap, set);
+    ask_contours(size, bitmap, table, set)
 }
 
 // Questions 1 to 7 and 15, likewise.
@@ -69,11 +88,12 @@ pub fn ask_kept_firsts(size: Size, bitmap: &[u8], table: &[u16], set: &mut [u64;
     ensures { λ r. ⌜ r ≡ firstNo (keptQuestions (layerOf size (now (bitmap .entry))) (now (table .entry))) ⌝ }
     ensures { λ r. ⌜ (r ≡ Yes → FirstSet (layerOf size (now (bitmap .entry))) (now (set .exit))) ⌝ }
 {
-    let held = ask_held_firsts(size, bitmap, table, set);
-    let Answer::Yes = held else {
-        return held;
+    let six = ask_six(size, bitmap, table);
+    let Answer::Yes = six else {
+        return six;
     };
-    table::ask_all_kept(size, table)
+    first_sticks(size, bitmap, set);
+    ask_kept(size, bitmap, table, set)
 }
 
 // Questions 1 to 7, for a call that needs no set.

@@ -2,17 +2,16 @@
 use mathlib.Core.Path.{sym, _∙_}
 use mathlib.Core.List.{[], _∷_}
 use borrow.Author.Needs.{needs}
-use lib.ListN.{length}
 use Rattle.grid.specs.Layer.{layerOf}
-use Rattle.table.specs.Entries.{lengthQuestions, entriesAnswer}
 use Rattle.held.specs.Held.{heldAnswer}
-use Rattle.grid.proofs.Answers.{no-not-yes, first-no, first-yes, first-only, append-no, append-yes}
-use Rattle.table.proofs.Lengths.{lengths-of}
+use Rattle.held.specs.Questions.{entryQuestions}
+use Rattle.grid.proofs.Answers.{no-not-yes, first-only, append-no, append-yes}
+use Rattle.held.proofs.Asking.{six-of}
 use Rattle.held.proofs.question.ask_held_firsts.Statement.{statement}
 use Rattle.held.proofs.question.ask_held_firsts.Tie as tie
 
-ask-lengths-requires : tie.Need-ask-lengths-requires
-ask-lengths-requires c κs = search needs
+ask-six-requires : tie.Need-ask-six-requires
+ask-six-requires c κs = search needs
 
 enum-told : tie.Need-enum-told
 enum-told c = search needs
@@ -22,70 +21,52 @@ enum-told-2 c = search needs
 
 returns : tie.Need-returns
 returns c =
-    let L = layerOf (c .before .before .before .before .before .args .size) (c .before .before .before .before .before .args .bitmap .now) in
-    let t = c .before .before .before .before .before .args .table .now in
-    let no-here = c .enum-told2 .given .1 in
-    (no-here ∙ append-no (lengthQuestions L (length t)) (entriesAnswer L t ∷ heldAnswer L t ∷ []) (sym (c .before .before .ask-lengths .ensures) ∙ no-here), λ y. absurd (no-not-yes _ _ (sym no-here ∙ y)))
-
-ask-entries-requires : tie.Need-ask-entries-requires
-ask-entries-requires c κs =
-    let L = layerOf (c .before .before .before .before .before .args .size) (c .before .before .before .before .before .args .bitmap .now) in
-    let t = c .before .before .before .before .before .args .table .now in
-    let five = sym (c .before .before .ask-lengths .ensures) ∙ c .enum-told .given .1 in
-    let both = lengths-of L (length t) five in
-    (both .0, both .1)
-
-enum-told-3 : tie.Need-enum-told-3
-enum-told-3 c = search needs
-
-enum-told-4 : tie.Need-enum-told-4
-enum-told-4 c = search needs
-
-returns-2 : tie.Need-returns-2
-returns-2 c =
-    let L = layerOf (c .before .before .before .before .before .before .before .before .args .size) (c .before .before .before .before .before .before .before .before .args .bitmap .now) in
-    let t = c .before .before .before .before .before .before .before .before .args .table .now in
-    let five = sym (c .before .before .before .before .before .ask-lengths .ensures) ∙ c .before .before .before .enum-told .given .1 in
-    let no-here = c .enum-told4 .given .1 in (
-      first-no (heldAnswer L t ∷ []) (c .before .before .ask-entries .ensures) no-here
-          ∙ append-yes (lengthQuestions L (length t)) (entriesAnswer L t ∷ heldAnswer L t ∷ []) five,
+    let asked = c .before .before in
+    let a = asked .before .before .before .args in
+    let L = layerOf (a .size) (a .bitmap .now) in
+    let t = a .table .now in
+    let no-here = c .enum-told2 .given .1 in (
+      no-here ∙ append-no (entryQuestions L t) (heldAnswer L t ∷ []) (sym (asked .ask-six .ensures) ∙ no-here),
       λ y. absurd (no-not-yes _ _ (sym no-here ∙ y)),
     )
 
-ask-held-requires : tie.Need-ask-held-requires
-ask-held-requires c κs =
-    let first = c .before .before .before .before .before .before .before .before .before in
-    let L = layerOf (first .args .size) (first .args .bitmap .now) in
-    let t = first .args .table .now in
-    let five = sym (c .before .before .before .before .before .before .ask-lengths .ensures) ∙ c .before .before .before .before .enum-told .given .1 in
-    let both = lengths-of L (length t) five in
-    (both .0, (both .1, first .pre))
+first-sticks-requires : tie.Need-first-sticks-requires
+first-sticks-requires c κs =
+    let told = c .before in
+    let asked = told .before .before in
+    let start = asked .before .before .before in
+    let a = start .args in
+    let six = six-of (layerOf (a .size) (a .bitmap .now)) (a .table .now) (sym (asked .ask-six .ensures) ∙ told .enum-told .given .1) in
+    (six .0, start .pre)
 
-returns-3 : tie.Need-returns-3
-returns-3 c =
-    let first = c .before .before .before .before .before .before .before .before .before .before in
-    let L = layerOf (first .args .size) (first .args .bitmap .now) in
-    let t = first .args .table .now in
-    let five = sym (c .before .before .before .before .before .before .before .ask-lengths .ensures) ∙ c .before .before .before .before .before .enum-told .given .1 in
-    let asked = c .ask-held .ensures in (
-      asked .0
-          ∙ first-only (heldAnswer L t)
-          ∙ first-yes (heldAnswer L t ∷ []) (c .before .before .before .before .ask-entries .ensures) (c .before .before .enum-told3 .given .1)
-          ∙ append-yes (lengthQuestions L (length t)) (entriesAnswer L t ∷ heldAnswer L t ∷ []) five,
-      λ _. asked .1,
-    )
+ask-contours-requires : tie.Need-ask-contours-requires
+ask-contours-requires c κs =
+    let marked = c .before in
+    let told = marked .before .before in
+    let asked = told .before .before in
+    let a = asked .before .before .before .args in
+    let six = six-of (layerOf (a .size) (a .bitmap .now)) (a .table .now) (sym (asked .ask-six .ensures) ∙ told .enum-told .given .1) in
+    (six .0, (six .1, marked .first-sticks .ensures))
+
+returns-2 : tie.Need-returns-2
+returns-2 c =
+    let marked = c .before .before in
+    let told = marked .before .before in
+    let asked = told .before .before in
+    let a = asked .before .before .before .args in
+    let L = layerOf (a .size) (a .bitmap .now) in
+    let t = a .table .now in
+    let six = sym (asked .ask-six .ensures) ∙ told .enum-told .given .1 in
+    (c .ask-contours .ensures ∙ first-only (heldAnswer L t) ∙ append-yes (entryQuestions L t) (heldAnswer L t ∷ []) six, λ _. marked .first-sticks .ensures)
 
 pub ask-held-firsts-spec : {M : Type 1} → statement M
 ask-held-firsts-spec =
     tie.close
     (tie.spec
-    ask-lengths-requires
+    ask-six-requires
     enum-told
     enum-told-2
     returns
-    ask-entries-requires
-    enum-told-3
-    enum-told-4
-    returns-2
-    ask-held-requires
-    returns-3)
+    first-sticks-requires
+    ask-contours-requires
+    returns-2)
