@@ -45,7 +45,7 @@ crossWithin place a b c d = firstNo (askAt place NoCrossing (a && b) ∷ askAt p
 
 module _ (L : Layer) (t : List ℕ) (tolerance place : ℕ) (a b : Chord) where
   pub chords-first : crossesChord L a ≡ false → No NoCrossing place ≡ chordsAnswer L t tolerance place a b
-  chords-first f = ap (λ (x : Bool). crossWithin place x (crossesChord L b) (withinChord L t tolerance a) (withinChord L t tolerance b)) (sym f)
+  chords-first f = λ i. crossWithin place (sym f i) (crossesChord L b) (withinChord L t tolerance a) (withinChord L t tolerance b)
 
   module _ (x : crossesChord L a ≡ true) where
     pub chords-second : crossesChord L b ≡ false → No NoCrossing place ≡ chordsAnswer L t tolerance place a b
@@ -179,7 +179,9 @@ module _ (L : Layer) (t : List ℕ) (accepted : Accepted L t) (s : Named) where
         unfolding removalAnswer
         removal-done f =
             let d = named-drawn kept in
-            let enough = le-leb 3 _ (removal-three L (accepted .sound) t (accepted .exact) (vertices L t accepted) (accepted .held) e d (sym crossing ∙ crossed)) in
+            let crosses = sym crossing ∙ crossed in
+            let enough =
+            le-leb 3 _ (removal-three L (accepted .sound) t (accepted .exact) (vertices L t accepted) (accepted .held) e d crosses) in
             (λ i. asked-of (sym kept i) ((sym crossed ∙ crossing) i) ((sym f ∙ measured) i) (sym enough i))
 
         pub removal-third-left : thirdLeft L t e (c .stick) ≡ true
@@ -192,7 +194,9 @@ module _ (L : Layer) (t : List ℕ) (accepted : Accepted L t) (s : Named) where
             let second = removal-second L (accepted .sound) t (accepted .exact) (vertices L t accepted) (accepted .held) e d crosses in
             let third = removal-third L (accepted .sound) t (accepted .exact) (vertices L t accepted) (accepted .held) e d crosses in
             ap (λ (x : Chord). thirdLeft L t e (x .stick)) is
-            ∙ (λ i. not (same-false (walkOf L) law {x = N} {y = P} (λ q. second (sym q)) i) && not (same-false (walkOf L) law {x = nextKept L t N} {y = P} third i))
+            ∙ (λ i.
+            not (same-false (walkOf L) law {x = N} {y = P} (λ q. second (sym q)) i)
+            && not (same-false (walkOf L) law {x = nextKept L t N} {y = P} third i))
 
     module _ (all : removalAnswer L tolerance t place s ≡ Yes) where
       agreed : (carriesKept L t s ≡ true) × (over ≡ true) × (near ≡ true)

@@ -61,17 +61,20 @@ abbrev slideTo : ℕ → List ℕ
 slideTo o = 0x53 ∷ 0 ∷ 0 ∷ 0 ∷ 1 ∷ 0 ∷ o ∷ 0x45 ∷ []
 
 -- "A slide to 0: 10."
-pub slide-to-zero : rollOf single 0 (slideTo 0) (entries 128 128 128 128) ≡ record { refusal = 10; place = 0; done = 0; table = entries 128 128 128 128 }
+pub slide-to-zero : rollOf single 0 (slideTo 0) (entries 128 128 128 128)
+    ≡ record { refusal = 10; place = 0; done = 0; table = entries 128 128 128 128 }
 unfolding run
 slide-to-zero = refl
 
 -- "To 255 on the traced single sample: done."
-pub slide-to-255 : rollOf single 0 (slideTo 255) (entries 128 128 128 128) ≡ record { refusal = 0; place = 0; done = 1; table = entries 255 128 128 128 }
+pub slide-to-255 : rollOf single 0 (slideTo 255) (entries 128 128 128 128)
+    ≡ record { refusal = 0; place = 0; done = 1; table = entries 255 128 128 128 }
 unfolding run
 slide-to-255 = refl
 
 -- "An E alone: 0 done."
-pub end-alone : rollOf single 0 (0x45 ∷ []) (entries 128 128 128 128) ≡ record { refusal = 0; place = 0; done = 0; table = entries 128 128 128 128 }
+pub end-alone : rollOf single 0 (0x45 ∷ []) (entries 128 128 128 128)
+    ≡ record { refusal = 0; place = 0; done = 0; table = entries 128 128 128 128 }
 unfolding run
 end-alone = refl
 

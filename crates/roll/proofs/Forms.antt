@@ -45,7 +45,8 @@ step r i later c = elim c [
   | wrong ↦ No Malformed i
 ]
 
-step-same : (r : List ℕ) (i : ℕ) (c : Command) (f g : ℕ → Answer) → f (i + 7) ≡ g (i + 7) → f (i + 6) ≡ g (i + 6) → step r i f c ≡ step r i g c
+step-same : (r : List ℕ) (i : ℕ) (c : Command) (f g : ℕ → Answer) → f (i + 7) ≡ g (i + 7) → f (i + 6) ≡ g (i + 6)
+    → step r i f c ≡ step r i g c
 step-same r i (slides s o) f g h k = h
 step-same r i (removes s) f g h k = k
 step-same r i ends f g h k = refl

@@ -67,7 +67,8 @@ backward L = walkBy (prev L) (next L) L
 
 module _ (L : Layer) (t : List ℕ) (sound : Sound L) where
   -- steps ahead undo steps back
-  ahead-back : (i j n : ℕ) → n ≡ i + j → (e : Edge) → isStick L e ≡ true → ahead (walkOf L) j (ahead (backward L) n e) ≡ ahead (backward L) i e
+  ahead-back : (i j n : ℕ) → n ≡ i + j → (e : Edge) → isStick L e ≡ true
+      → ahead (walkOf L) j (ahead (backward L) n e) ≡ ahead (backward L) i e
   unfolding ahead
   ahead-back i zero n s e stick = let one : n ≡ i = omega arith in ap (λ (n : ℕ). ahead (backward L) n e) one
   ahead-back i (suc j) n s e stick =
@@ -87,7 +88,8 @@ module _ (L : Layer) (t : List ℕ) (sound : Sound L) where
     unfolding ahead
     turned k gap = record {
       removed = λ j h.
-          ap (removedAt L t) (ahead-back (suc (k - suc j)) (suc j) (suc k) (omega arith) e (d .stick)) ∙ gap .removed (k - suc j) (omega arith);
+          ap (removedAt L t) (ahead-back (suc (k - suc j)) (suc j) (suc k) (omega arith) e (d .stick))
+          ∙ gap .removed (k - suc j) (omega arith);
       ends = ap (removedAt L t) (ahead-back 0 (suc k) (suc k) (omega arith) e (d .stick)) ∙ stays;
     }
 
@@ -136,14 +138,16 @@ module _ (L : Layer) (t t′ : List ℕ) (sound : Sound L) (p e : Edge) (dp : Dr
           | yes y ↦
               let here : ahead (walkOf L) (suc j) p ≡ ahead (walkOf L) (suc (j - suc g)) e = past (suc (j - suc g)) (suc j) (omega arith) in
               ap (removedAt L t′) here
-              ∙ longer (ahead (walkOf L) (suc (j - suc g)) e) (ahead-stick (suc (j - suc g)) e (more .was-drawn .stick)) (b .gap .removed (j - suc g) (omega arith))
+              ∙ longer (ahead (walkOf L) (suc (j - suc g)) e) (ahead-stick (suc (j - suc g)) e (more .was-drawn .stick))
+              (b .gap .removed (j - suc g) (omega arith))
           | no m ↦
               let same : suc j ≡ suc g = omega arith in
               ap (λ (k : ℕ). removedAt L t′ (ahead (walkOf L) k p)) same ∙ ap (removedAt L t′) met ∙ more .now-removed
         ]
       ];
       ends =
-          let last : ahead (walkOf L) (suc (g + 1 + h)) p ≡ nextKept L t e = past (suc h) (suc (g + 1 + h)) (omega arith) ∙ sym (b .end-is) in
+          let last : ahead (walkOf L) (suc (g + 1 + h)) p ≡ nextKept L t e =
+          past (suc h) (suc (g + 1 + h)) (omega arith) ∙ sym (b .end-is) in
           ap (removedAt L t′) last
           ∙ more .others (nextKept L t e) (rw (b .end-is) (ahead-stick (suc h) e (more .was-drawn .stick))) n-other
           ∙ ap (removedAt L t) (b .end-is) ∙ b .gap .ends;

@@ -17,7 +17,8 @@ use Rattle.roll.proofs.Steps.{run-by}
 
 module _ (L : Layer) where
   -- a refusal leaves the table t; after a yes there is what follows
-  by-answer : (answer : Answer) (t : List ℕ) (refused : Refusal → ℕ → Outcome) (later : Outcome) → ((q : Refusal) (place : ℕ) → refused q place .table ≡ t)
+  by-answer : (answer : Answer) (t : List ℕ) (refused : Refusal → ℕ → Outcome) (later : Outcome)
+      → ((q : Refusal) (place : ℕ) → refused q place .table ≡ t)
       → Accepted L t → (answer ≡ Yes → Accepted L (later .table)) → Accepted L (ifAllYes answer refused later .table)
   by-answer Yes t refused later left a after = after refl
   by-answer (No q place) t refused later left a after = subst (Accepted L) (sym (left q place)) a
@@ -32,11 +33,13 @@ module _ (L : Layer) where
         go : ((j : ℕ) (u : List ℕ) → Accepted L u → Accepted L (runFrom L tolerance r n j (done + 1) u .table))
             → (c : Command) → Accepted L (run-by L tolerance r i done t (λ j u. runFrom L tolerance r n j (done + 1) u) c .table)
         go later (slides s o) =
-            by-answer (slideAnswer L tolerance t i s o) t (λ q place. record { refusal = numberOf q; place = place; done = done; table = t })
+            by-answer (slideAnswer L tolerance t i s o) t
+            (λ q place. record { refusal = numberOf q; place = place; done = done; table = t })
             (runFrom L tolerance r n (i + 7) (done + 1) (slid L t (edgeNamed s) o)) (λ q place. refl) a
             (λ all. later (i + 7) (slid L t (edgeNamed s) o) (slide-keeps L t a s tolerance i o all))
         go later (removes s) =
-            by-answer (removalAnswer L tolerance t i s) t (λ q place. record { refusal = numberOf q; place = place; done = done; table = t })
+            by-answer (removalAnswer L tolerance t i s) t
+            (λ q place. record { refusal = numberOf q; place = place; done = done; table = t })
             (runFrom L tolerance r n (i + 6) (done + 1) (without L t (edgeNamed s))) (λ q place. refl) a
             (λ all. later (i + 6) (without L t (edgeNamed s)) (removal-keeps L t a s tolerance i all))
         go later ends = a
@@ -45,5 +48,6 @@ module _ (L : Layer) where
     pub roll-keeps : (t : List ℕ) → Accepted L t → Accepted L (rollOf L tolerance r t .table)
     unfolding rollOf
     roll-keeps t a =
-        by-answer (firstNo (heldQuestions L t ++ (rollAnswer r ∷ []))) t (λ q place. record { refusal = numberOf q; place = place; done = 0; table = t })
+        by-answer (firstNo (heldQuestions L t ++ (rollAnswer r ∷ []))) t
+        (λ q place. record { refusal = numberOf q; place = place; done = 0; table = t })
         (runFrom L tolerance r (length r + 1) 0 0 t) (λ q place. refl) a (λ all. run-held (length r + 1) 0 0 t a)

@@ -1,4 +1,6 @@
--- The paper's cases on edit rolls (Examples), question 8 command by command (Forms), and the redrawn edges as the code asks of them (Within).
+-- The paper's cases on edit rolls (Examples); the theorem that Roll leaves a held layer held (Held); and what its code rests on: question 8
+-- command by command (Forms), the redrawn edges and their gaps (Within, GapLengths, Redrawn), the questions put to one edit (Asked), and one
+-- command after the other (Steps).
 pub mod Examples
 pub mod Forms
 pub mod Within

@@ -66,7 +66,8 @@ module _ (L : Layer) (t : List ℕ) (accepted : Accepted L t) where
   kept-stick e inside kept =
       let sized = sound .whole .sized in
       let k = number (L .size) e in
-      let fits = not-false _ (each-all WrongEntry (wrongAt L t) (edgeCount (L .size)) (accepted .entries) k (number-below (L .size) sized e inside)) in
+      let fits = not-false _ (each-all WrongEntry (wrongAt L t) (edgeCount (L .size)) (accepted .entries) k
+      (number-below (L .size) sized e inside)) in
       let here : suits (isStick L e) (entryAt L t e) ≡ true =
       ap (λ (b : Edge). suits (isStick L b) (entryAt L t e)) (sym (edgeAt-number (L .size) sized e inside)) ∙ fits in
       record { stick = go (isStick L e) (entryAt L t e) here kept; kept = kept }
@@ -99,7 +100,8 @@ module _ (L : Layer) (t : List ℕ) (accepted : Accepted L t) where
     -- A slide
 
     module _ (o : ℕ) (inside : Inside o) where
-      pub slide-offsets : (u : Edge) → isStick L u ≡ true → removedAt L (slid L t e o) u ≡ true → offsetAt L (slid L t e o) u ≡ offsetAt L t u
+      pub slide-offsets : (u : Edge) → isStick L u ≡ true → removedAt L (slid L t e o) u ≡ true
+          → offsetAt L (slid L t e o) u ≡ offsetAt L t u
       slide-offsets u stick r =
           let was : removedAt L t u ≡ true = sym (slide-removed L sound t (accepted .exact) e d o inside u) ∙ r in
           offset-of u _ _ (slide-vertex L sound t (accepted .exact) e d o inside u stick (λ s. not-both L t u (rw s (d .kept)) was))
@@ -143,7 +145,8 @@ module _ (L : Layer) (t : List ℕ) (accepted : Accepted L t) where
     more : OneMore L t (without L t e) e
     more = removal-more L sound t (accepted .exact) e d vertices
 
-    pub removal-offsets : (u : Edge) → isStick L u ≡ true → removedAt L (without L t e) u ≡ true → offsetAt L (without L t e) u ≡ offsetAt L t u
+    pub removal-offsets : (u : Edge) → isStick L u ≡ true → removedAt L (without L t e) u ≡ true
+        → offsetAt L (without L t e) u ≡ offsetAt L t u
     removal-offsets u stick r = offset-of u _ _ (removal-vertex L sound t (accepted .exact) e d vertices u)
 
     pub removal-over : {from to : Position} {stick last : Edge} {g h : ℕ} → from ≡ vertex L t stick → to ≡ vertex L t last → stick ≡ P

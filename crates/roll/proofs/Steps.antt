@@ -95,7 +95,8 @@ module _ (L : Layer) (tolerance : ℕ) (r : List ℕ) where
     | wrong ↦ stopped done t
   ]
 
-  run-same : (i done : ℕ) (t : List ℕ) (f g : ℕ → List ℕ → Outcome) → ((u : List ℕ) → f (i + 7) u ≡ g (i + 7) u) → ((u : List ℕ) → f (i + 6) u ≡ g (i + 6) u)
+  run-same : (i done : ℕ) (t : List ℕ) (f g : ℕ → List ℕ → Outcome) → ((u : List ℕ) → f (i + 7) u ≡ g (i + 7) u)
+      → ((u : List ℕ) → f (i + 6) u ≡ g (i + 6) u)
       → (c : Command) → run-by i done t f c ≡ run-by i done t g c
   run-same i done t f g h k (slides s o) =
       ap (ifAllYes (slideAnswer L tolerance t i s o) (refused done t)) (h (slid L t (edgeNamed s) o))
@@ -104,7 +105,8 @@ module _ (L : Layer) (tolerance : ℕ) (r : List ℕ) where
   run-same i done t f g h k ends = refl
   run-same i done t f g h k wrong = refl
 
-  run-fuel : (n m i done : ℕ) (t : List ℕ) → length r < i + n → length r < i + m → runFrom L tolerance r n i done t ≡ runFrom L tolerance r m i done t
+  run-fuel : (n m i done : ℕ) (t : List ℕ) → length r < i + n → length r < i + m
+      → runFrom L tolerance r n i done t ≡ runFrom L tolerance r m i done t
   unfolding runFrom
   run-fuel zero zero i done t h k = refl
   run-fuel zero (suc m) i done t h k =
@@ -138,7 +140,8 @@ module _ (L : Layer) (tolerance : ℕ) (r : List ℕ) where
   unfolding slideStep removalStep
   ran-step i done t formed = ran-first i done t ∙ go (commandAt r i) refl
     where
-      by : (answer : Answer) (j : ℕ) (t′ : List ℕ) → ifAllYes answer (refused done t) (ranFrom j (done + 1) t′) ≡ ran-after done (stepBy answer j t t′)
+      by : (answer : Answer) (j : ℕ) (t′ : List ℕ)
+          → ifAllYes answer (refused done t) (ranFrom j (done + 1) t′) ≡ ran-after done (stepBy answer j t t′)
       by Yes j t′ = refl
       by (No q place) j t′ = refl
 
@@ -168,7 +171,8 @@ end-not-on : {j : ℕ} → End ≡ On j → ⊥
 end-not-on s = let z : _≡_ {A = ℕ} 0 1 = cc in omega arith
 
 module _ {j : ℕ} {t′ : List ℕ} where
-  on-yes : (answer : Answer) (after : ℕ) (t u : List ℕ) → stepBy answer after t u ≡ stepped (On j) t′ → (answer ≡ Yes) × (after ≡ j) × (u ≡ t′)
+  on-yes : (answer : Answer) (after : ℕ) (t u : List ℕ) → stepBy answer after t u ≡ stepped (On j) t′
+      → (answer ≡ Yes) × (after ≡ j) × (u ≡ t′)
   on-yes Yes after t u h = (refl, (let s : On after ≡ On j = ap (λ (x : Stepped). x .step) h in cc), ap (λ (x : Stepped). x .table) h)
   on-yes (No q place) after t u h = absurd (stop-not-on (ap (λ (x : Stepped). x .step) h))
 

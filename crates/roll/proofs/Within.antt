@@ -1,5 +1,5 @@
--- A chord against the vertices of the sticks that follow one: none, or the next one and those that follow it. And a drawn edge's gap is such a
--- run of sticks, for crossing and for sliding.
+-- A chord against the vertices of the sticks that follow one: none, or the next one and those that follow it. And a drawn edge's gap is
+-- such a run of sticks, for crossing and for sliding.
 use mathlib.Core.Path.{_≡_, refl, sym, _∙_, ap}
 use mathlib.Core.Bool.{Bool, true, false, _&&_}
 use mathlib.Core.List.{List}
@@ -41,7 +41,8 @@ module _ (L : Layer) (t : List ℕ) (tolerance : ℕ) (p q : Position) where
     pub within-missed : slidesWithin tolerance p q e′ (offsetAt L t e′) ≡ false → false ≡ withinRun L t tolerance p q e n
     within-missed f = sym (within-more e e′ n step some ∙ ap (λ (b : Bool). b && withinRun L t tolerance p q e′ (n - 1)) f)
 
-    pub within-met : slidesWithin tolerance p q e′ (offsetAt L t e′) ≡ true → withinRun L t tolerance p q e′ (n - 1) ≡ withinRun L t tolerance p q e n
+    pub within-met : slidesWithin tolerance p q e′ (offsetAt L t e′) ≡ true
+        → withinRun L t tolerance p q e′ (n - 1) ≡ withinRun L t tolerance p q e n
     within-met s = sym (within-more e e′ n step some ∙ ap (λ (b : Bool). b && withinRun L t tolerance p q e′ (n - 1)) s)
 
 -- The redrawn edges are drawn on the table t′ after the edit; the code reads the offsets of the table t before it, which are the same on the
@@ -57,7 +58,8 @@ module _ (L : Layer) (sound : Sound L) (t t′ : List ℕ)
       let after = next-stick L sound e stick in
       both-sides (removedAt L t′ (next L e))
       (λ r. rw (gap-over (next L) L t′ n e r, same (next L e) after r)
-      (ap (λ (b : Bool). slidesWithin tolerance p q (next L e) (offsetAt L t (next L e)) && b) (each-within tolerance p q n (next L e) after)))
+      (ap (λ (b : Bool). slidesWithin tolerance p q (next L e) (offsetAt L t (next L e)) && b)
+      (each-within tolerance p q n (next L e) after)))
       (λ r. rw (gap-here (next L) L t′ (suc n) e r))
 
   -- so the code asks of a redrawn edge what the definition asks

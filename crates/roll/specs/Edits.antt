@@ -17,7 +17,7 @@ use Rattle.table.specs.Vertices.{keptAt, offsetAt, gapAfter, nextKept, previous
 use Rattle.held.specs.Held.{each, among, vertex, edgeCrosses}
 use Rattle.roll.specs.Commands.{Named, askAt}
 
--- the edge that a command names: "(a kind above 1 does not)" lie in the grid, which question 9 asks first
+-- the edge that a command names; it means something for kinds 0 and 1 alone, which question 9 asks first
 abbrev pub edgeNamed : Named → Edge
 edgeNamed s = record { vertical = eqb (s .kind) 1; column = s .column; row = s .row }
 

@@ -65,7 +65,7 @@ abbrev pub oneTried : Progress → Progress
 oneTried s = record { table = s .table; removed = s .removed; tried = s .tried + 1 }
 
 module _ (L : Layer) (tolerance : ℕ) where
-  -- "A run that does not pass is split .. and each part is tried." As every part is shorter, a depth of n is enough for a run of n edges.
+  -- "A run that does not pass is split .. and each part is tried." As every part is shorter, a depth of n is enough for a run of n edges, n above 0.
   unfoldable pub tryRun : ℕ → Progress → Edge → ℕ → Progress
   unfolding passes removeInner
   tryRun zero s e n = s

@@ -27,10 +27,11 @@ ask-last-requires c κs = search needs
 
 returns : tie.Need-returns Inv-loop μ-loop
 returns c =
+    let test = c .before .before .before .loop-test in
     let start = c .before .before .before .before .before .before in
     let r = start .args .roll .now in
     let loop = c .before .before .before .before .loop in
-    let less = c .before .before .before .loop-test .taken in
+    let less = test .taken in
     c .ask-last .ensures ∙ formed-end r (loop .at) (at-end r (loop .at) (c .before .match .keys3) less) ∙ loop .inv .1
 
 returns-2 : tie.Need-returns-2 Inv-loop μ-loop
@@ -46,10 +47,11 @@ sub-if1 c = search needs
 
 returns-3 : tie.Need-returns-3 Inv-loop μ-loop
 returns-3 c =
+    let test = c .before .before .before .loop-test in
     let start = c .before .before .before .before .before .before in
     let r = start .args .roll .now in
     let loop = c .before .before .before .before .loop in
-    let less = c .before .before .before .loop-test .taken in
+    let less = test .taken in
     let short = c .if1 .taken in
     formed-wrong r (loop .at) (elim (c .before .match .came) [
       | inl w ↦ at-slide-cut r (loop .at) (w .0 .keys1) (omega (arith, w .1))
@@ -61,16 +63,18 @@ add-at c = search needs
 
 loop-less : tie.Need-loop-less Inv-loop μ-loop
 loop-less c =
-    elim (c .before .before .match .came) [ inl w ↦ omega (arith, w .1) | inr w ↦ omega (arith, w .1) ]
+    let arm = c .before .before .match in
+    elim (arm .came) [ inl w ↦ omega (arith, w .1) | inr w ↦ omega (arith, w .1) ]
 
 loop-again : tie.Need-loop-again Inv-loop μ-loop
 loop-again c =
+    let arm = c .before .before .match in
     let start = c .before .before .before .before .before .before .before in
     let r = start .args .roll .now in
     let loop = c .before .before .before .before .before .loop in
     let whole = c .before .if1 .left in (
       omega arith,
-      elim (c .before .before .match .came) [
+      elim (arm .came) [
         | inl w ↦ rw (w .1) (formed-slide r (loop .at) (at-slide r (loop .at) (w .0 .keys1) (omega (arith, w .1)))) ∙ loop .inv .1
         | inr w ↦ rw (w .1) (formed-removal r (loop .at) (at-removal r (loop .at) (w .0 .keys2) (omega (arith, w .1)))) ∙ loop .inv .1
       ],

@@ -16,10 +16,11 @@ carries-kept-requires c κs = search needs
 
 returns : tie.Need-returns
 returns c =
-    let a = c .before .before .before .before .args in
+    let start = c .before .before .before .before in
+    let a = start .args in
     let L = layerOf (a .size) (a .bitmap .now) in
     let t = a .table .now in
-    let accepted = c .before .before .before .before .pre in
+    let accepted = start .pre in
     removal-none L t accepted (a .stick) (a .t) (a .place)
     (sym (names-kept L t accepted (a .stick)) ∙ sym (c .before .carries-kept .ensures) ∙ not-true _ (c .if1 .taken))
 
@@ -28,11 +29,13 @@ edge-named-requires c κs = search needs
 
 joined-requires : tie.Need-joined-requires
 joined-requires c κs =
-    let a = c .before .before .before .before .before .args in
+    let start = c .before .before .before .before .before in
+    let carries-kept = c .before .before .carries-kept in
+    let a = start .args in
     let L = layerOf (a .size) (a .bitmap .now) in
     let t = a .table .now in
-    let accepted = c .before .before .before .before .before .pre in
-    let kept = sym (names-kept L t accepted (a .stick)) ∙ sym (c .before .before .carries-kept .ensures) ∙ not-false _ (c .before .if1 .left) in
+    let accepted = start .pre in
+    let kept = sym (names-kept L t accepted (a .stick)) ∙ sym (carries-kept .ensures) ∙ not-false _ (c .before .if1 .left) in
     let here : Drawn L t (c .edge-named .result) = rw (c .edge-named .ensures) (named-drawn L t accepted (a .stick) kept) in
     (accepted, here)
 
@@ -41,61 +44,98 @@ crosses-all-requires c κs = search needs
 
 returns-2 : tie.Need-returns-2
 returns-2 c =
-    let a = c .before .before .before .before .before .before .before .before .args in
+    let start = c .before .before .before .before .before .before .before .before in
+    let carries-kept = c .before .before .before .before .before .carries-kept in
+    let if1 = c .before .before .before .before .if1 in
+    let edge-named = c .before .before .before .edge-named in
+    let joined = c .before .before .joined in
+    let a = start .args in
     let L = layerOf (a .size) (a .bitmap .now) in
     let t = a .table .now in
-    let accepted = c .before .before .before .before .before .before .before .before .pre in
-    let kept = sym (names-kept L t accepted (a .stick)) ∙ sym (c .before .before .before .before .before .carries-kept .ensures) ∙ not-false _ (c .before .before .before .before .if1 .left) in
-    let over = c .before .before .joined .ensures .0 ∙ ap (joinedOver L t) (c .before .before .before .edge-named .ensures) in
-    removal-missed L t accepted (a .stick) (a .t) (a .place) kept (c .before .before .joined .result) over (sym (c .before .crosses-all .ensures) ∙ not-true _ (c .if2 .taken))
+    let accepted = start .pre in
+    let kept = sym (names-kept L t accepted (a .stick)) ∙ sym (carries-kept .ensures) ∙ not-false _ (if1 .left) in
+    let over = joined .ensures .0 ∙ ap (joinedOver L t) (edge-named .ensures) in
+    removal-missed L t accepted (a .stick) (a .t) (a .place) kept (joined .result) over
+    (sym (c .before .crosses-all .ensures) ∙ not-true _ (c .if2 .taken))
 
 within-all-requires : tie.Need-within-all-requires
 within-all-requires c κs = search needs
 
 returns-3 : tie.Need-returns-3
 returns-3 c =
-    let a = c .before .before .before .before .before .before .before .before .before .before .args in
+    let start = c .before .before .before .before .before .before .before .before .before .before in
+    let carries-kept = c .before .before .before .before .before .before .before .carries-kept in
+    let if1 = c .before .before .before .before .before .before .if1 in
+    let edge-named = c .before .before .before .before .before .edge-named in
+    let joined = c .before .before .before .before .joined in
+    let crosses-all = c .before .before .before .crosses-all in
+    let if2 = c .before .before .if2 in
+    let a = start .args in
     let L = layerOf (a .size) (a .bitmap .now) in
     let t = a .table .now in
-    let accepted = c .before .before .before .before .before .before .before .before .before .before .pre in
-    let kept = sym (names-kept L t accepted (a .stick)) ∙ sym (c .before .before .before .before .before .before .before .carries-kept .ensures) ∙ not-false _ (c .before .before .before .before .before .before .if1 .left) in
-    let over = c .before .before .before .before .joined .ensures .0 ∙ ap (joinedOver L t) (c .before .before .before .before .before .edge-named .ensures) in
-    let crossed = sym (c .before .before .before .crosses-all .ensures) ∙ not-false _ (c .before .before .if2 .left) in
-    removal-far L t accepted (a .stick) (a .t) (a .place) kept (c .before .before .before .before .joined .result) over crossed (sym (c .before .within-all .ensures) ∙ not-true _ (c .if3 .taken))
+    let accepted = start .pre in
+    let kept = sym (names-kept L t accepted (a .stick)) ∙ sym (carries-kept .ensures) ∙ not-false _ (if1 .left) in
+    let over = joined .ensures .0 ∙ ap (joinedOver L t) (edge-named .ensures) in
+    let crossed = sym (crosses-all .ensures) ∙ not-false _ (if2 .left) in
+    removal-far L t accepted (a .stick) (a .t) (a .place) kept (joined .result) over crossed
+    (sym (c .before .within-all .ensures) ∙ not-true _ (c .if3 .taken))
 
 leaves-three-requires : tie.Need-leaves-three-requires
 leaves-three-requires c κs =
-    let a = c .before .before .before .before .before .before .before .before .before .before .args in
+    let start = c .before .before .before .before .before .before .before .before .before .before in
+    let carries-kept = c .before .before .before .before .before .before .before .carries-kept in
+    let if1 = c .before .before .before .before .before .before .if1 in
+    let edge-named = c .before .before .before .before .before .edge-named in
+    let a = start .args in
     let L = layerOf (a .size) (a .bitmap .now) in
     let t = a .table .now in
-    let accepted = c .before .before .before .before .before .before .before .before .before .before .pre in
-    let kept = sym (names-kept L t accepted (a .stick)) ∙ sym (c .before .before .before .before .before .before .before .carries-kept .ensures) ∙ not-false _ (c .before .before .before .before .before .before .if1 .left) in
-    let here : Drawn L t (c .before .before .before .before .before .edge-named .result) = rw (c .before .before .before .before .before .edge-named .ensures) (named-drawn L t accepted (a .stick) kept) in
+    let accepted = start .pre in
+    let kept = sym (names-kept L t accepted (a .stick)) ∙ sym (carries-kept .ensures) ∙ not-false _ (if1 .left) in
+    let here : Drawn L t (edge-named .result) = rw (edge-named .ensures) (named-drawn L t accepted (a .stick) kept) in
     (accepted, here)
 
 returns-4 : tie.Need-returns-4
 returns-4 c =
-    let a = c .before .before .before .before .before .before .before .before .before .before .before .before .args in
+    let start = c .before .before .before .before .before .before .before .before .before .before .before .before in
+    let carries-kept = c .before .before .before .before .before .before .before .before .before .carries-kept in
+    let if1 = c .before .before .before .before .before .before .before .before .if1 in
+    let edge-named = c .before .before .before .before .before .before .before .edge-named in
+    let joined = c .before .before .before .before .before .before .joined in
+    let crosses-all = c .before .before .before .before .before .crosses-all in
+    let if2 = c .before .before .before .before .if2 in
+    let a = start .args in
     let L = layerOf (a .size) (a .bitmap .now) in
     let t = a .table .now in
-    let accepted = c .before .before .before .before .before .before .before .before .before .before .before .before .pre in
-    let kept = sym (names-kept L t accepted (a .stick)) ∙ sym (c .before .before .before .before .before .before .before .before .before .carries-kept .ensures) ∙ not-false _ (c .before .before .before .before .before .before .before .before .if1 .left) in
-    let over = c .before .before .before .before .before .before .joined .ensures .0 ∙ ap (joinedOver L t) (c .before .before .before .before .before .before .before .edge-named .ensures) in
-    let crossed = sym (c .before .before .before .before .before .crosses-all .ensures) ∙ not-false _ (c .before .before .before .before .if2 .left) in
-    let left = removal-third-left L t accepted (a .stick) (a .t) (a .place) kept (c .before .before .before .before .before .before .joined .result) over crossed in
-    let told = ap (λ (e : Edge). thirdLeft L t e (c .before .before .before .before .before .before .joined .result .stick)) (sym (c .before .before .before .before .before .before .before .edge-named .ensures)) ∙ sym (c .before .leaves-three .ensures) ∙ not-true _ (c .if4 .taken) in
+    let accepted = start .pre in
+    let kept = sym (names-kept L t accepted (a .stick)) ∙ sym (carries-kept .ensures) ∙ not-false _ (if1 .left) in
+    let over = joined .ensures .0 ∙ ap (joinedOver L t) (edge-named .ensures) in
+    let crossed = sym (crosses-all .ensures) ∙ not-false _ (if2 .left) in
+    let left = removal-third-left L t accepted (a .stick) (a .t) (a .place) kept (joined .result) over crossed in
+    let told =
+    ap (λ (e : Edge). thirdLeft L t e (joined .result .stick)) (sym (edge-named .ensures)) ∙ sym (c .before .leaves-three .ensures)
+    ∙ not-true _ (c .if4 .taken) in
     absurd (true≢false (sym left ∙ told))
 
 returns-5 : tie.Need-returns-5
 returns-5 c =
-    let a = c .before .before .before .before .before .before .before .before .before .before .before .before .args in
+    let start = c .before .before .before .before .before .before .before .before .before .before .before .before in
+    let carries-kept = c .before .before .before .before .before .before .before .before .before .carries-kept in
+    let if1 = c .before .before .before .before .before .before .before .before .if1 in
+    let edge-named = c .before .before .before .before .before .before .before .edge-named in
+    let joined = c .before .before .before .before .before .before .joined in
+    let crosses-all = c .before .before .before .before .before .crosses-all in
+    let if2 = c .before .before .before .before .if2 in
+    let within-all = c .before .before .before .within-all in
+    let if3 = c .before .before .if3 in
+    let a = start .args in
     let L = layerOf (a .size) (a .bitmap .now) in
     let t = a .table .now in
-    let accepted = c .before .before .before .before .before .before .before .before .before .before .before .before .pre in
-    let kept = sym (names-kept L t accepted (a .stick)) ∙ sym (c .before .before .before .before .before .before .before .before .before .carries-kept .ensures) ∙ not-false _ (c .before .before .before .before .before .before .before .before .if1 .left) in
-    let over = c .before .before .before .before .before .before .joined .ensures .0 ∙ ap (joinedOver L t) (c .before .before .before .before .before .before .before .edge-named .ensures) in
-    let crossed = sym (c .before .before .before .before .before .crosses-all .ensures) ∙ not-false _ (c .before .before .before .before .if2 .left) in
-    removal-done L t accepted (a .stick) (a .t) (a .place) kept (c .before .before .before .before .before .before .joined .result) over crossed (sym (c .before .before .before .within-all .ensures) ∙ not-false _ (c .before .before .if3 .left))
+    let accepted = start .pre in
+    let kept = sym (names-kept L t accepted (a .stick)) ∙ sym (carries-kept .ensures) ∙ not-false _ (if1 .left) in
+    let over = joined .ensures .0 ∙ ap (joinedOver L t) (edge-named .ensures) in
+    let crossed = sym (crosses-all .ensures) ∙ not-false _ (if2 .left) in
+    removal-done L t accepted (a .stick) (a .t) (a .place) kept (joined .result) over crossed
+    (sym (within-all .ensures) ∙ not-false _ (if3 .left))
 
 pub ask-removal-spec : {M : Type 1} → statement M
 ask-removal-spec =

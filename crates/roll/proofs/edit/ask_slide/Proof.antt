@@ -16,20 +16,23 @@ carries-kept-requires c κs = search needs
 
 returns : tie.Need-returns
 returns c =
-    let a = c .before .before .before .before .args in
+    let start = c .before .before .before .before in
+    let a = start .args in
     let L = layerOf (a .size) (a .bitmap .now) in
     let t = a .table .now in
-    let accepted = c .before .before .before .before .pre in
+    let accepted = start .pre in
     slide-none L t accepted (a .stick) (a .t) (a .place) (a .offset)
     (sym (names-kept L t accepted (a .stick)) ∙ sym (c .before .carries-kept .ensures) ∙ not-true _ (c .if1 .taken))
 
 returns-2 : tie.Need-returns-2
 returns-2 c =
-    let a = c .before .before .before .before .before .args in
+    let start = c .before .before .before .before .before in
+    let carries-kept = c .before .before .carries-kept in
+    let a = start .args in
     let L = layerOf (a .size) (a .bitmap .now) in
     let t = a .table .now in
-    let accepted = c .before .before .before .before .before .pre in
-    let kept = sym (names-kept L t accepted (a .stick)) ∙ sym (c .before .before .carries-kept .ensures) ∙ not-false _ (c .before .if1 .left) in
+    let accepted = start .pre in
+    let kept = sym (names-kept L t accepted (a .stick)) ∙ sym (carries-kept .ensures) ∙ not-false _ (c .before .if1 .left) in
     slide-bad L t accepted (a .stick) (a .t) (a .place) (a .offset) kept (bad-offset (a .offset) (c .if2 .taken))
 
 edge-named-requires : tie.Need-edge-named-requires
@@ -37,39 +40,53 @@ edge-named-requires c κs = search needs
 
 slid-into-requires : tie.Need-slid-into-requires
 slid-into-requires c κs =
-    let a = c .before .before .before .before .before .before .args in
+    let start = c .before .before .before .before .before .before in
+    let carries-kept = c .before .before .before .carries-kept in
+    let if1 = c .before .before .if1 in
+    let a = start .args in
     let L = layerOf (a .size) (a .bitmap .now) in
     let t = a .table .now in
-    let accepted = c .before .before .before .before .before .before .pre in
-    let kept = sym (names-kept L t accepted (a .stick)) ∙ sym (c .before .before .before .carries-kept .ensures) ∙ not-false _ (c .before .before .if1 .left) in
+    let accepted = start .pre in
+    let kept = sym (names-kept L t accepted (a .stick)) ∙ sym (carries-kept .ensures) ∙ not-false _ (if1 .left) in
     let here : Drawn L t (c .edge-named .result) = rw (c .edge-named .ensures) (named-drawn L t accepted (a .stick) kept) in
     (accepted, (here, good-offset (a .offset) (c .before .if2 .left) (omega arith)))
 
 slid-out-requires : tie.Need-slid-out-requires
 slid-out-requires c κs =
-    let a = c .before .before .before .before .before .before .before .args in
+    let start = c .before .before .before .before .before .before .before in
+    let carries-kept = c .before .before .before .before .carries-kept in
+    let if1 = c .before .before .before .if1 in
+    let if2 = c .before .before .if2 in
+    let a = start .args in
     let L = layerOf (a .size) (a .bitmap .now) in
     let t = a .table .now in
-    let accepted = c .before .before .before .before .before .before .before .pre in
-    let kept = sym (names-kept L t accepted (a .stick)) ∙ sym (c .before .before .before .before .carries-kept .ensures) ∙ not-false _ (c .before .before .before .if1 .left) in
+    let accepted = start .pre in
+    let kept = sym (names-kept L t accepted (a .stick)) ∙ sym (carries-kept .ensures) ∙ not-false _ (if1 .left) in
     let here : Drawn L t (c .before .edge-named .result) = rw (c .before .edge-named .ensures) (named-drawn L t accepted (a .stick) kept) in
-    (accepted, (here, good-offset (a .offset) (c .before .before .if2 .left) (omega arith)))
+    (accepted, (here, good-offset (a .offset) (if2 .left) (omega arith)))
 
 ask-chords-requires : tie.Need-ask-chords-requires
 ask-chords-requires c κs = search needs
 
 returns-3 : tie.Need-returns-3
 returns-3 c =
-    let a = c .before .before .before .before .before .before .before .before .before .args in
+    let start = c .before .before .before .before .before .before .before .before .before in
+    let carries-kept = c .before .before .before .before .before .before .carries-kept in
+    let if1 = c .before .before .before .before .before .if1 in
+    let if2 = c .before .before .before .before .if2 in
+    let edge-named = c .before .before .before .edge-named in
+    let slid-into = c .before .before .slid-into in
+    let a = start .args in
     let L = layerOf (a .size) (a .bitmap .now) in
     let t = a .table .now in
-    let accepted = c .before .before .before .before .before .before .before .before .before .pre in
-    let kept = sym (names-kept L t accepted (a .stick)) ∙ sym (c .before .before .before .before .before .before .carries-kept .ensures) ∙ not-false _ (c .before .before .before .before .before .if1 .left) in
-    let into = c .before .before .slid-into .ensures .0 ∙ ap (λ (e : Edge). slidInto L t e (a .offset)) (c .before .before .before .edge-named .ensures) in
-    let out = c .before .slid-out .ensures .0 ∙ ap (λ (e : Edge). slidOut L t e (a .offset)) (c .before .before .before .edge-named .ensures) in
+    let accepted = start .pre in
+    let kept = sym (names-kept L t accepted (a .stick)) ∙ sym (carries-kept .ensures) ∙ not-false _ (if1 .left) in
+    let into = slid-into .ensures .0 ∙ ap (λ (e : Edge). slidInto L t e (a .offset)) (edge-named .ensures) in
+    let out = c .before .slid-out .ensures .0 ∙ ap (λ (e : Edge). slidOut L t e (a .offset)) (edge-named .ensures) in
     c .ask-chords .ensures
-    ∙ slide-asked L t accepted (a .stick) (a .t) (a .place) (a .offset) kept (good-offset (a .offset) (c .before .before .before .before .if2 .left) (omega (arith, c .before .before .before .before .before .before .before .before .before .good)))
-    (c .before .before .slid-into .result) (c .before .slid-out .result) into out
+    ∙ slide-asked L t accepted (a .stick) (a .t) (a .place) (a .offset) kept
+    (good-offset (a .offset) (if2 .left) (omega (arith, start .good)))
+    (slid-into .result) (c .before .slid-out .result) into out
 
 pub ask-slide-spec : {M : Type 1} → statement M
 ask-slide-spec =

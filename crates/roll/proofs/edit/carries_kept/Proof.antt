@@ -32,11 +32,14 @@ in-grid-requires c κs = search needs
 
 returns-2 : tie.Need-returns-2
 returns-2 c =
+    let if1 = c .before .before .before .if1 in
+    let edge-named = c .before .before .edge-named in
     let a = c .before .before .before .before .before .before .args in
     let off : inGrid (a .size) (edgeNamed (a .stick)) ≡ false =
-    ap (inGrid (a .size)) (sym (c .before .before .edge-named .ensures)) ∙ sym (c .before .in-grid .ensures) ∙ not-true _ (c .if2 .taken) in
-    chain (leb (a .stick .kind) 1) (inGrid (a .size) (edgeNamed (a .stick))) (isKept (entryOf (getD (a .table .now) (number (a .size) (edgeNamed (a .stick))) 0)))
-    (le-leb (a .stick .kind) 1 (c .before .before .before .if1 .left)) off
+    ap (inGrid (a .size)) (sym (edge-named .ensures)) ∙ sym (c .before .in-grid .ensures) ∙ not-true _ (c .if2 .taken) in
+    chain (leb (a .stick .kind) 1) (inGrid (a .size) (edgeNamed (a .stick)))
+    (isKept (entryOf (getD (a .table .now) (number (a .size) (edgeNamed (a .stick))) 0)))
+    (le-leb (a .stick .kind) 1 (if1 .left)) off
 
 entry-at-requires : tie.Need-entry-at-requires
 entry-at-requires c κs =
@@ -48,13 +51,19 @@ is-kept-requires c κs = search needs
 
 returns-3 : tie.Need-returns-3
 returns-3 c =
+    let if1 = c .before .before .before .before .before .if1 in
+    let edge-named = c .before .before .before .before .edge-named in
+    let in-grid = c .before .before .before .in-grid in
+    let if2 = c .before .before .if2 in
     let a = c .before .before .before .before .before .before .before .before .args in
     let on : inGrid (a .size) (edgeNamed (a .stick)) ≡ true =
-    ap (inGrid (a .size)) (sym (c .before .before .before .before .edge-named .ensures)) ∙ sym (c .before .before .before .in-grid .ensures) ∙ not-false _ (c .before .before .if2 .left) in
+    ap (inGrid (a .size)) (sym (edge-named .ensures)) ∙ sym (in-grid .ensures) ∙ not-false _ (if2 .left) in
     c .is-kept .ensures
-    ∙ ap isKept (c .before .entry-at .ensures ∙ ap (λ (e : Edge). entryOf (getD (a .table .now) (number (a .size) e) 0)) (c .before .before .before .before .edge-named .ensures))
-    ∙ both (leb (a .stick .kind) 1) (inGrid (a .size) (edgeNamed (a .stick))) (isKept (entryOf (getD (a .table .now) (number (a .size) (edgeNamed (a .stick))) 0)))
-    (le-leb (a .stick .kind) 1 (c .before .before .before .before .before .if1 .left)) on
+    ∙ ap isKept (c .before .entry-at .ensures)
+    ∙ ap (λ (e : Edge). isKept (entryOf (getD (a .table .now) (number (a .size) e) 0))) (edge-named .ensures)
+    ∙ both (leb (a .stick .kind) 1) (inGrid (a .size) (edgeNamed (a .stick)))
+    (isKept (entryOf (getD (a .table .now) (number (a .size) (edgeNamed (a .stick))) 0)))
+    (le-leb (a .stick .kind) 1 (if1 .left)) on
 
 pub carries-kept-spec : {M : Type 1} → statement M
 carries-kept-spec =

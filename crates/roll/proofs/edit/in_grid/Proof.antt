@@ -17,14 +17,21 @@ edge-rows-requires c κs = search needs
 
 returns : tie.Need-returns
 returns c =
-    let e = c .before .before .before .before .before .args .e in
+    let start = c .before .before .before .before .before in
+    let edge-columns = c .before .before .before .before .edge-columns in
+    let if1 = c .before .before .if1 in
+    let e = start .args .e in
     ap (λ (n : ℕ). ltb (e .row) n) (c .before .edge-rows .ensures)
-    ∙ ap (λ (b : Bool). b && ltb (e .row) (edgeRows (c .before .before .before .before .before .args .size) (e .vertical))) (sym (ap (ltb (e .column)) (sym (c .before .before .before .before .edge-columns .ensures)) ∙ lt-ltb _ _ (c .before .before .if1 .taken)))
+    ∙ ap (λ (b : Bool). b && ltb (e .row) (edgeRows (start .args .size) (e .vertical)))
+    (sym (ap (ltb (e .column)) (sym (edge-columns .ensures)) ∙ lt-ltb _ _ (if1 .taken)))
 
 returns-2 : tie.Need-returns-2
 returns-2 c =
-    let e = c .before .before .before .args .e in
-    ap (λ (b : Bool). b && ltb (e .row) (edgeRows (c .before .before .before .args .size) (e .vertical))) (sym (ap (ltb (e .column)) (sym (c .before .before .edge-columns .ensures)) ∙ le-ltb _ _ (c .if1 .left)))
+    let start = c .before .before .before in
+    let edge-columns = c .before .before .edge-columns in
+    let e = start .args .e in
+    ap (λ (b : Bool). b && ltb (e .row) (edgeRows (start .args .size) (e .vertical)))
+    (sym (ap (ltb (e .column)) (sym (edge-columns .ensures)) ∙ le-ltb _ _ (c .if1 .left)))
 
 pub in-grid-spec : {M : Type 1} → statement M
 in-grid-spec = tie.close (tie.spec edge-columns-requires edge-rows-requires returns returns-2)

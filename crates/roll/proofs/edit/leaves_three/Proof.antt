@@ -24,36 +24,43 @@ same-edge-requires c κs = search needs
 
 returns : tie.Need-returns
 returns c =
+    let kept-after = c .before .before .kept-after in
     let a = c .before .before .before .before .before .args in
     let L = layerOf (a .size) (a .bitmap .now) in
     let t = a .table .now in
     let same : sameEdge (nextKept L t (a .e)) (a .before) ≡ true =
-    ap (λ (x : Edge). sameEdge x (a .before)) (sym (c .before .before .kept-after .ensures .0)) ∙ sym (c .before .same-edge .ensures) ∙ c .if1 .taken in
+    ap (λ (x : Edge). sameEdge x (a .before)) (sym (kept-after .ensures .0)) ∙ sym (c .before .same-edge .ensures) ∙ c .if1 .taken in
     ap (λ (b : Bool). not b && not (sameEdge (nextKept L t (nextKept L t (a .e))) (a .before))) (sym same)
 
 kept-after-requires-2 : tie.Need-kept-after-requires-2
 kept-after-requires-2 c κs =
-    let a = c .before .before .before .before .before .args in
-    let given = c .before .before .before .before .before .pre in
+    let start = c .before .before .before .before .before in
+    let kept-after = c .before .before .kept-after in
+    let a = start .args in
+    let given = start .pre in
     let L = layerOf (a .size) (a .bitmap .now) in
     let t = a .table .now in
     let d = after-drawn L t (given .0) (a .e) (given .1) in
-    let here : removedAt L t (c .before .before .kept-after .result .stick) ≡ false =
-    ap (removedAt L t) (c .before .before .kept-after .ensures .0) ∙ kept-not-removed L t (nextKept L t (a .e)) (d .kept) in
-    (given .0 .sound, (given .0 .exact, (c .before .before .kept-after .ensures .1 .1, here)))
+    let here : removedAt L t (kept-after .result .stick) ≡ false =
+    ap (removedAt L t) (kept-after .ensures .0) ∙ kept-not-removed L t (nextKept L t (a .e)) (d .kept) in
+    (given .0 .sound, (given .0 .exact, (kept-after .ensures .1 .1, here)))
 
 same-edge-requires-2 : tie.Need-same-edge-requires-2
 same-edge-requires-2 c κs = search needs
 
 returns-2 : tie.Need-returns-2
 returns-2 c =
+    let kept-after = c .before .before .before .before .kept-after in
+    let same-edge = c .before .before .before .same-edge in
+    let if1 = c .before .before .if1 in
     let a = c .before .before .before .before .before .before .before .args in
     let L = layerOf (a .size) (a .bitmap .now) in
     let t = a .table .now in
     let N = nextKept L t (a .e) in
     let differ : sameEdge N (a .before) ≡ false =
-    ap (λ (x : Edge). sameEdge x (a .before)) (sym (c .before .before .before .before .kept-after .ensures .0)) ∙ sym (c .before .before .before .same-edge .ensures) ∙ c .before .before .if1 .left in
-    let third : c .before .kept-after2 .result .stick ≡ nextKept L t N = c .before .kept-after2 .ensures .0 ∙ ap (nextKept L t) (c .before .before .before .before .kept-after .ensures .0) in
+    ap (λ (x : Edge). sameEdge x (a .before)) (sym (kept-after .ensures .0)) ∙ sym (same-edge .ensures) ∙ if1 .left in
+    let third : c .before .kept-after2 .result .stick ≡ nextKept L t N =
+    c .before .kept-after2 .ensures .0 ∙ ap (nextKept L t) (kept-after .ensures .0) in
     ap not (c .same-edge2 .ensures ∙ ap (λ (x : Edge). sameEdge x (a .before)) third)
     ∙ ap (λ (b : Bool). not b && not (sameEdge (nextKept L t N) (a .before))) (sym differ)
 

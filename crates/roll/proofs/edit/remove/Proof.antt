@@ -34,22 +34,27 @@ same-length c = search needs
 
 returns : tie.Need-returns
 returns c =
-    let a = c .before .before .before .before .before .before .args in
+    let start = c .before .before .before .before .before .before in
+    let ask-removal = c .before .before .ask-removal in
+    let a = start .args in
     let L = layerOf (a .size) (a .bitmap .now) in
     let t = a .table .now in
-    let accepted = c .before .before .before .before .before .before .pre in
-    (c .before .before .ask-removal .ensures, sym (ap (λ (x : Answer). storedIf x t (without L t (edgeNamed (a .stick)))) (c .enum-told2 .given .1)))
+    let accepted = start .pre in
+    (ask-removal .ensures, sym (ap (λ (x : Answer). storedIf x t (without L t (edgeNamed (a .stick)))) (c .enum-told2 .given .1)))
 
 edge-named-requires : tie.Need-edge-named-requires
 edge-named-requires c κs = search needs
 
 entry-at-requires : tie.Need-entry-at-requires
 entry-at-requires c κs =
-    let a = c .before .before .before .before .before .before .before .before .args in
+    let start = c .before .before .before .before .before .before .before .before in
+    let ask-removal = c .before .before .before .before .ask-removal in
+    let enum-told = c .before .before .enum-told in
+    let a = start .args in
     let L = layerOf (a .size) (a .bitmap .now) in
     let t = a .table .now in
-    let accepted = c .before .before .before .before .before .before .before .before .pre in
-    let all : removalAnswer L (a .t) t (a .place) (a .stick) ≡ Yes = sym (c .before .before .before .before .ask-removal .ensures) ∙ c .before .before .enum-told .given .1 in
+    let accepted = start .pre in
+    let all : removalAnswer L (a .t) t (a .place) (a .stick) ≡ Yes = sym (ask-removal .ensures) ∙ enum-told .given .1 in
     let inside = stick-in L (edgeNamed (a .stick)) (removal-drawn L t accepted (a .stick) (a .t) (a .place) all .stick) in
     let here : inGrid (a .size) (c .before .edge-named .result) ≡ true = rw (c .before .edge-named .ensures) inside in
     (accepted .sound .whole .sized, (accepted .exact, here))
@@ -62,13 +67,17 @@ widen-entry-requires c κs = search needs
 
 number-of-requires : tie.Need-number-of-requires
 number-of-requires c κs =
-    let a = c .before .before .before .before .before .before .before .before .before .before .before .args in
+    let start = c .before .before .before .before .before .before .before .before .before .before .before in
+    let ask-removal = c .before .before .before .before .before .before .before .ask-removal in
+    let enum-told = c .before .before .before .before .before .enum-told in
+    let edge-named = c .before .before .before .before .edge-named in
+    let a = start .args in
     let L = layerOf (a .size) (a .bitmap .now) in
     let t = a .table .now in
-    let accepted = c .before .before .before .before .before .before .before .before .before .before .before .pre in
-    let all : removalAnswer L (a .t) t (a .place) (a .stick) ≡ Yes = sym (c .before .before .before .before .before .before .before .ask-removal .ensures) ∙ c .before .before .before .before .before .enum-told .given .1 in
+    let accepted = start .pre in
+    let all : removalAnswer L (a .t) t (a .place) (a .stick) ≡ Yes = sym (ask-removal .ensures) ∙ enum-told .given .1 in
     let inside = stick-in L (edgeNamed (a .stick)) (removal-drawn L t accepted (a .stick) (a .t) (a .place) all .stick) in
-    let here : inGrid (a .size) (c .before .before .before .before .edge-named .result) ≡ true = rw (c .before .before .before .before .edge-named .ensures) inside in
+    let here : inGrid (a .size) (edge-named .result) ≡ true = rw (edge-named .ensures) inside in
     (accepted .sound .whole .sized, here)
 
 add-table : tie.Need-add-table
@@ -76,25 +85,35 @@ add-table c = search needs
 
 mul-table : tie.Need-mul-table
 mul-table c =
-    let a = c .before .before .before .before .before .before .before .before .before .before .before .before .args in
+    let start = c .before .before .before .before .before .before .before .before .before .before .before .before in
+    let ask-removal = c .before .before .before .before .before .before .before .before .ask-removal in
+    let enum-told = c .before .before .before .before .before .before .enum-told in
+    let edge-named = c .before .before .before .before .before .edge-named in
+    let a = start .args in
     let L = layerOf (a .size) (a .bitmap .now) in
     let t = a .table .now in
-    let accepted = c .before .before .before .before .before .before .before .before .before .before .before .before .pre in
-    let all : removalAnswer L (a .t) t (a .place) (a .stick) ≡ Yes = sym (c .before .before .before .before .before .before .before .before .ask-removal .ensures) ∙ c .before .before .before .before .before .before .enum-told .given .1 in
+    let accepted = start .pre in
+    let all : removalAnswer L (a .t) t (a .place) (a .stick) ≡ Yes = sym (ask-removal .ensures) ∙ enum-told .given .1 in
     let inside = stick-in L (edgeNamed (a .stick)) (removal-drawn L t accepted (a .stick) (a .t) (a .place) all .stick) in
-    let is : c .number-of .result ≡ number (a .size) (edgeNamed (a .stick)) = c .number-of .ensures ∙ ap (number (a .size)) (c .before .before .before .before .before .edge-named .ensures) in
+    let is : c .number-of .result ≡ number (a .size) (edgeNamed (a .stick)) =
+    c .number-of .ensures ∙ ap (number (a .size)) (edge-named .ensures) in
     let below = number-below (a .size) (accepted .sound .whole .sized) (edgeNamed (a .stick)) inside in
     omega (arith, is, below, edges-small (a .size) (accepted .sound .whole .sized))
 
 slice-write-table : tie.Need-slice-write-table
 slice-write-table c =
-    let a = c .before .before .before .before .before .before .before .before .before .before .before .before .args in
+    let start = c .before .before .before .before .before .before .before .before .before .before .before .before in
+    let ask-removal = c .before .before .before .before .before .before .before .before .ask-removal in
+    let enum-told = c .before .before .before .before .before .before .enum-told in
+    let edge-named = c .before .before .before .before .before .edge-named in
+    let a = start .args in
     let L = layerOf (a .size) (a .bitmap .now) in
     let t = a .table .now in
-    let accepted = c .before .before .before .before .before .before .before .before .before .before .before .before .pre in
-    let all : removalAnswer L (a .t) t (a .place) (a .stick) ≡ Yes = sym (c .before .before .before .before .before .before .before .before .ask-removal .ensures) ∙ c .before .before .before .before .before .before .enum-told .given .1 in
+    let accepted = start .pre in
+    let all : removalAnswer L (a .t) t (a .place) (a .stick) ≡ Yes = sym (ask-removal .ensures) ∙ enum-told .given .1 in
     let inside = stick-in L (edgeNamed (a .stick)) (removal-drawn L t accepted (a .stick) (a .t) (a .place) all .stick) in
-    let is : c .number-of .result ≡ number (a .size) (edgeNamed (a .stick)) = c .number-of .ensures ∙ ap (number (a .size)) (c .before .before .before .before .before .edge-named .ensures) in
+    let is : c .number-of .result ≡ number (a .size) (edgeNamed (a .stick)) =
+    c .number-of .ensures ∙ ap (number (a .size)) (edge-named .ensures) in
     let below = number-below (a .size) (accepted .sound .whole .sized) (edgeNamed (a .stick)) inside in
     omega (arith, is, below, accepted .exact)
 
@@ -104,17 +123,24 @@ same-length-2 c = search needs
 returns-2 : tie.Need-returns-2
 unfolding offsetAt
 returns-2 c =
-    let a = c .before .before .before .before .before .before .before .before .before .before .before .before .args in
+    let start = c .before .before .before .before .before .before .before .before .before .before .before .before in
+    let ask-removal = c .before .before .before .before .before .before .before .before .ask-removal in
+    let enum-told = c .before .before .before .before .before .before .enum-told in
+    let edge-named = c .before .before .before .before .before .edge-named in
+    let entry-at = c .before .before .before .entry-at in
+    let offset-in = c .before .before .offset-in in
+    let a = start .args in
     let L = layerOf (a .size) (a .bitmap .now) in
     let t = a .table .now in
-    let accepted = c .before .before .before .before .before .before .before .before .before .before .before .before .pre in
-    let all : removalAnswer L (a .t) t (a .place) (a .stick) ≡ Yes = sym (c .before .before .before .before .before .before .before .before .ask-removal .ensures) ∙ c .before .before .before .before .before .before .enum-told .given .1 in
+    let accepted = start .pre in
+    let all : removalAnswer L (a .t) t (a .place) (a .stick) ≡ Yes = sym (ask-removal .ensures) ∙ enum-told .given .1 in
     let inside = stick-in L (edgeNamed (a .stick)) (removal-drawn L t accepted (a .stick) (a .t) (a .place) all .stick) in
-    let is : c .number-of .result ≡ number (a .size) (edgeNamed (a .stick)) = c .number-of .ensures ∙ ap (number (a .size)) (c .before .before .before .before .before .edge-named .ensures) in
+    let is : c .number-of .result ≡ number (a .size) (edgeNamed (a .stick)) =
+    c .number-of .ensures ∙ ap (number (a .size)) (edge-named .ensures) in
     let below = number-below (a .size) (accepted .sound .whole .sized) (edgeNamed (a .stick)) inside in
     let offset : c .before .widen-entry .result ≡ offsetAt L t (edgeNamed (a .stick)) =
-    c .before .widen-entry .ensures .0 ∙ c .before .before .offset-in .ensures ∙ ap offsetIn (c .before .before .before .entry-at .ensures)
-    ∙ ap (λ (e : Edge). offsetIn (entryOf (getD t (number (a .size) e) 0))) (c .before .before .before .before .before .edge-named .ensures) in
+    c .before .widen-entry .ensures .0 ∙ offset-in .ensures ∙ ap offsetIn (entry-at .ensures)
+    ∙ ap (λ (e : Edge). offsetIn (entryOf (getD t (number (a .size) e) 0))) (edge-named .ensures) in
     (sym all, λ i. set t (is i) (256 + offset i))
 
 pub remove-spec : {M : Type 1} → statement M

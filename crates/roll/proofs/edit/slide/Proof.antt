@@ -30,22 +30,26 @@ same-length c = search needs
 
 returns : tie.Need-returns
 returns c =
-    let a = c .before .before .before .before .before .before .args in
+    let start = c .before .before .before .before .before .before in
+    let ask-slide = c .before .before .ask-slide in
+    let a = start .args in
     let L = layerOf (a .size) (a .bitmap .now) in
     let t = a .table .now in
-    let accepted = c .before .before .before .before .before .before .pre in
-    (c .before .before .ask-slide .ensures, sym (ap (λ (x : Answer). storedIf x t (slid L t (edgeNamed (a .stick)) (a .offset))) (c .enum-told2 .given .1)))
+    let accepted = start .pre in
+    (ask-slide .ensures, sym (ap (λ (x : Answer). storedIf x t (slid L t (edgeNamed (a .stick)) (a .offset))) (c .enum-told2 .given .1)))
 
 edge-named-requires : tie.Need-edge-named-requires
 edge-named-requires c κs = search needs
 
 number-of-requires : tie.Need-number-of-requires
 number-of-requires c κs =
-    let a = c .before .before .before .before .before .before .before .args in
+    let start = c .before .before .before .before .before .before .before in
+    let ask-slide = c .before .before .before .ask-slide in
+    let a = start .args in
     let L = layerOf (a .size) (a .bitmap .now) in
     let t = a .table .now in
-    let accepted = c .before .before .before .before .before .before .before .pre in
-    let all : slideAnswer L (a .t) t (a .place) (a .stick) (a .offset) ≡ Yes = sym (c .before .before .before .ask-slide .ensures) ∙ c .before .enum-told .given .1 in
+    let accepted = start .pre in
+    let all : slideAnswer L (a .t) t (a .place) (a .stick) (a .offset) ≡ Yes = sym (ask-slide .ensures) ∙ c .before .enum-told .given .1 in
     let inside = stick-in L (edgeNamed (a .stick)) (slide-drawn L t accepted (a .stick) (a .t) (a .place) (a .offset) all .stick) in
     let here : inGrid (a .size) (c .edge-named .result) ≡ true = rw (c .edge-named .ensures) inside in
     (accepted .sound .whole .sized, here)
@@ -55,25 +59,35 @@ widen-entry-requires c κs = search needs
 
 mul-table : tie.Need-mul-table
 mul-table c =
-    let a = c .before .before .before .before .before .before .before .before .before .args in
+    let start = c .before .before .before .before .before .before .before .before .before in
+    let ask-slide = c .before .before .before .before .before .ask-slide in
+    let enum-told = c .before .before .before .enum-told in
+    let edge-named = c .before .before .edge-named in
+    let a = start .args in
     let L = layerOf (a .size) (a .bitmap .now) in
     let t = a .table .now in
-    let accepted = c .before .before .before .before .before .before .before .before .before .pre in
-    let all : slideAnswer L (a .t) t (a .place) (a .stick) (a .offset) ≡ Yes = sym (c .before .before .before .before .before .ask-slide .ensures) ∙ c .before .before .before .enum-told .given .1 in
+    let accepted = start .pre in
+    let all : slideAnswer L (a .t) t (a .place) (a .stick) (a .offset) ≡ Yes = sym (ask-slide .ensures) ∙ enum-told .given .1 in
     let inside = stick-in L (edgeNamed (a .stick)) (slide-drawn L t accepted (a .stick) (a .t) (a .place) (a .offset) all .stick) in
-    let is : c .before .number-of .result ≡ number (a .size) (edgeNamed (a .stick)) = c .before .number-of .ensures ∙ ap (number (a .size)) (c .before .before .edge-named .ensures) in
+    let is : c .before .number-of .result ≡ number (a .size) (edgeNamed (a .stick)) =
+    c .before .number-of .ensures ∙ ap (number (a .size)) (edge-named .ensures) in
     let below = number-below (a .size) (accepted .sound .whole .sized) (edgeNamed (a .stick)) inside in
     omega (arith, is, below, edges-small (a .size) (accepted .sound .whole .sized))
 
 slice-write-table : tie.Need-slice-write-table
 slice-write-table c =
-    let a = c .before .before .before .before .before .before .before .before .before .args in
+    let start = c .before .before .before .before .before .before .before .before .before in
+    let ask-slide = c .before .before .before .before .before .ask-slide in
+    let enum-told = c .before .before .before .enum-told in
+    let edge-named = c .before .before .edge-named in
+    let a = start .args in
     let L = layerOf (a .size) (a .bitmap .now) in
     let t = a .table .now in
-    let accepted = c .before .before .before .before .before .before .before .before .before .pre in
-    let all : slideAnswer L (a .t) t (a .place) (a .stick) (a .offset) ≡ Yes = sym (c .before .before .before .before .before .ask-slide .ensures) ∙ c .before .before .before .enum-told .given .1 in
+    let accepted = start .pre in
+    let all : slideAnswer L (a .t) t (a .place) (a .stick) (a .offset) ≡ Yes = sym (ask-slide .ensures) ∙ enum-told .given .1 in
     let inside = stick-in L (edgeNamed (a .stick)) (slide-drawn L t accepted (a .stick) (a .t) (a .place) (a .offset) all .stick) in
-    let is : c .before .number-of .result ≡ number (a .size) (edgeNamed (a .stick)) = c .before .number-of .ensures ∙ ap (number (a .size)) (c .before .before .edge-named .ensures) in
+    let is : c .before .number-of .result ≡ number (a .size) (edgeNamed (a .stick)) =
+    c .before .number-of .ensures ∙ ap (number (a .size)) (edge-named .ensures) in
     let below = number-below (a .size) (accepted .sound .whole .sized) (edgeNamed (a .stick)) inside in
     omega (arith, is, below, accepted .exact)
 
@@ -82,13 +96,18 @@ same-length-2 c = search needs
 
 returns-2 : tie.Need-returns-2
 returns-2 c =
-    let a = c .before .before .before .before .before .before .before .before .before .args in
+    let start = c .before .before .before .before .before .before .before .before .before in
+    let ask-slide = c .before .before .before .before .before .ask-slide in
+    let enum-told = c .before .before .before .enum-told in
+    let edge-named = c .before .before .edge-named in
+    let a = start .args in
     let L = layerOf (a .size) (a .bitmap .now) in
     let t = a .table .now in
-    let accepted = c .before .before .before .before .before .before .before .before .before .pre in
-    let all : slideAnswer L (a .t) t (a .place) (a .stick) (a .offset) ≡ Yes = sym (c .before .before .before .before .before .ask-slide .ensures) ∙ c .before .before .before .enum-told .given .1 in
+    let accepted = start .pre in
+    let all : slideAnswer L (a .t) t (a .place) (a .stick) (a .offset) ≡ Yes = sym (ask-slide .ensures) ∙ enum-told .given .1 in
     let inside = stick-in L (edgeNamed (a .stick)) (slide-drawn L t accepted (a .stick) (a .t) (a .place) (a .offset) all .stick) in
-    let is : c .before .number-of .result ≡ number (a .size) (edgeNamed (a .stick)) = c .before .number-of .ensures ∙ ap (number (a .size)) (c .before .before .edge-named .ensures) in
+    let is : c .before .number-of .result ≡ number (a .size) (edgeNamed (a .stick)) =
+    c .before .number-of .ensures ∙ ap (number (a .size)) (edge-named .ensures) in
     let below = number-below (a .size) (accepted .sound .whole .sized) (edgeNamed (a .stick)) inside in
     (sym all, λ i. set t (is i) (c .widen-entry .ensures .0 i))
 

@@ -20,14 +20,16 @@ kept-after-requires c κs =
 
 position-of-requires : tie.Need-position-of-requires
 position-of-requires c κs =
-    let a = c .before .before .before .args in
-    let given = c .before .before .before .pre in
+    let start = c .before .before .before in
+    let a = start .args in
+    let given = start .pre in
     stick-near (layerOf (a .size) (a .bitmap .now)) (given .0 .sound) (a .e) (given .1 .0 .stick)
 
 vertex-at-requires : tie.Need-vertex-at-requires
 vertex-at-requires c κs =
-    let a = c .before .before .before .before .args in
-    let given = c .before .before .before .before .pre in
+    let start = c .before .before .before .before in
+    let a = start .args in
+    let given = start .pre in
     let L = layerOf (a .size) (a .bitmap .now) in
     let after = c .before .kept-after in
     (given .0 .sound .whole .sized, (given .0 .exact, stick-in L (after .result .stick) (after .ensures .1 .1)))
@@ -35,13 +37,15 @@ vertex-at-requires c κs =
 returns : tie.Need-returns
 unfolding offsetAt
 returns c =
-    let a = c .before .before .before .before .before .args in
-    let given = c .before .before .before .before .before .pre in
+    let start = c .before .before .before .before .before in
+    let a = start .args in
+    let given = start .pre in
     let L = layerOf (a .size) (a .bitmap .now) in
     let t = a .table .now in
     let after = c .before .before .kept-after in
     let to : c .vertex-at .result ≡ vertex L t (after .result .stick) = c .vertex-at .ensures .0 in (
-      slide-out L t (given .0) (a .e) (given .1 .0) (a .offset) (inside-of (a .offset) (given .1 .1)) (c .before .position-of .ensures .0) to (after .ensures .0) (after .ensures .1 .0),
+      slide-out L t (given .0) (a .e) (given .1 .0) (a .offset) (inside-of (a .offset) (given .1 .1))
+          (c .before .position-of .ensures .0) to (after .ensures .0) (after .ensures .1 .0),
       record { from-near = c .before .position-of .ensures .1; to-near = c .vertex-at .ensures .1; stick = given .1 .0 .stick },
     )
 

@@ -31,9 +31,10 @@ next-stick-requires c κs = (c .before .before .before .before .pre .0, c .befor
 
 entry-at-requires : tie.Need-entry-at-requires Inv-loop μ-loop
 entry-at-requires c κs =
-    let a = c .before .before .before .before .before .args in
+    let start = c .before .before .before .before .before in
+    let a = start .args in
     let L = layerOf (a .size) (a .bitmap .now) in
-    let given = c .before .before .before .before .before .pre in
+    let given = start .pre in
     let loop = c .before .before .loop in
     let step = c .next-stick in
     let stick : isStick L (step .result) ≡ true = rw (step .ensures) (next-stick L (given .0) (loop .at) (loop .inv .0)) in
@@ -44,9 +45,10 @@ offset-in-requires c κs = search needs
 
 slides-within-requires : tie.Need-slides-within-requires Inv-loop μ-loop
 slides-within-requires c κs =
-    let a = c .before .before .before .before .before .before .before .args in
+    let start = c .before .before .before .before .before .before .before in
+    let a = start .args in
     let L = layerOf (a .size) (a .bitmap .now) in
-    let given = c .before .before .before .before .before .before .before .pre in
+    let given = start .pre in
     let loop = c .before .before .before .before .loop in
     let step = c .before .before .next-stick in
     let stick : isStick L (step .result) ≡ true = rw (step .ensures) (next-stick L (given .0) (loop .at) (loop .inv .0)) in
@@ -55,14 +57,19 @@ slides-within-requires c κs =
 returns : tie.Need-returns Inv-loop μ-loop
 unfolding offsetAt
 returns c =
+    let test = c .before .before .before .before .before .loop-test in
+    let entry-at = c .before .before .before .entry-at in
+    let offset-in = c .before .before .offset-in in
     let a = c .before .before .before .before .before .before .before .before .before .args in
     let L = layerOf (a .size) (a .bitmap .now) in
     let t = a .table .now in
     let loop = c .before .before .before .before .before .before .loop in
     let step = c .before .before .before .before .next-stick in
-    let offset : c .before .before .offset-in .result ≡ offsetAt L t (step .result) = c .before .before .offset-in .ensures ∙ ap offsetIn (c .before .before .before .entry-at .ensures) in
-    let missed = ap (slidesWithin (a .t) (a .p) (a .q) (step .result)) (sym offset) ∙ sym (c .before .slides-within .ensures) ∙ not-true _ (c .if1 .taken) in
-    within-missed L t (a .t) (a .p) (a .q) (loop .at) (step .result) (loop .left) (step .ensures) (c .before .before .before .before .before .loop-test .taken) missed
+    let offset : offset-in .result ≡ offsetAt L t (step .result) = offset-in .ensures ∙ ap offsetIn (entry-at .ensures) in
+    let missed =
+    ap (slidesWithin (a .t) (a .p) (a .q) (step .result)) (sym offset) ∙ sym (c .before .slides-within .ensures)
+    ∙ not-true _ (c .if1 .taken) in
+    within-missed L t (a .t) (a .p) (a .q) (loop .at) (step .result) (loop .left) (step .ensures) (test .taken) missed
     ∙ loop .inv .1
 
 sub-left : tie.Need-sub-left Inv-loop μ-loop
@@ -74,16 +81,22 @@ loop-less c = search needs
 loop-again : tie.Need-loop-again Inv-loop μ-loop
 unfolding offsetAt
 loop-again c =
-    let a = c .before .before .before .before .before .before .before .before .before .args in
+    let start = c .before .before .before .before .before .before .before .before .before in
+    let test = c .before .before .before .before .before .loop-test in
+    let entry-at = c .before .before .before .entry-at in
+    let offset-in = c .before .before .offset-in in
+    let a = start .args in
     let L = layerOf (a .size) (a .bitmap .now) in
     let t = a .table .now in
-    let given = c .before .before .before .before .before .before .before .before .before .pre in
+    let given = start .pre in
     let loop = c .before .before .before .before .before .before .loop in
     let step = c .before .before .before .before .next-stick in
-    let offset : c .before .before .offset-in .result ≡ offsetAt L t (step .result) = c .before .before .offset-in .ensures ∙ ap offsetIn (c .before .before .before .entry-at .ensures) in
-    let met = ap (slidesWithin (a .t) (a .p) (a .q) (step .result)) (sym offset) ∙ sym (c .before .slides-within .ensures) ∙ not-false _ (c .if1 .left) in (
+    let offset : offset-in .result ≡ offsetAt L t (step .result) = offset-in .ensures ∙ ap offsetIn (entry-at .ensures) in
+    let met =
+    ap (slidesWithin (a .t) (a .p) (a .q) (step .result)) (sym offset) ∙ sym (c .before .slides-within .ensures)
+    ∙ not-false _ (c .if1 .left) in (
       rw (step .ensures) (next-stick L (given .0) (loop .at) (loop .inv .0)),
-      within-met L t (a .t) (a .p) (a .q) (loop .at) (step .result) (loop .left) (step .ensures) (c .before .before .before .before .before .loop-test .taken) met
+      within-met L t (a .t) (a .p) (a .q) (loop .at) (step .result) (loop .left) (step .ensures) (test .taken) met
           ∙ loop .inv .1,
     )
 

@@ -20,20 +20,23 @@ enum-told-2 c = search needs
 
 returns : tie.Need-returns
 returns c =
+    let ask-layer-held = c .before .before .ask-layer-held in
     let a = c .before .before .before .before .before .before .args in
     let L = layerOf (a .size) (a .bitmap .now) in
     let no-here = c .enum-told2 .given .1 in
-    no-here ∙ append-no (heldQuestions L (a .table .now)) (rollAnswer (a .roll .now) ∷ []) (sym (c .before .before .ask-layer-held .ensures) ∙ no-here)
+    no-here ∙ append-no (heldQuestions L (a .table .now)) (rollAnswer (a .roll .now) ∷ []) (sym (ask-layer-held .ensures) ∙ no-here)
 
 ask-roll-requires : tie.Need-ask-roll-requires
 ask-roll-requires c κs = search needs
 
 returns-2 : tie.Need-returns-2
 returns-2 c =
+    let ask-layer-held = c .before .before .before .ask-layer-held in
     let a = c .before .before .before .before .before .before .before .args in
     let L = layerOf (a .size) (a .bitmap .now) in
     c .ask-roll .ensures ∙ first-only (rollAnswer (a .roll .now))
-    ∙ append-yes (heldQuestions L (a .table .now)) (rollAnswer (a .roll .now) ∷ []) (sym (c .before .before .before .ask-layer-held .ensures) ∙ c .before .enum-told .given .1)
+    ∙ append-yes (heldQuestions L (a .table .now)) (rollAnswer (a .roll .now) ∷ [])
+    (sym (ask-layer-held .ensures) ∙ c .before .enum-told .given .1)
 
 pub ask-all-spec : {M : Type 1} → statement M
 ask-all-spec =

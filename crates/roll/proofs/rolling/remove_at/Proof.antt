@@ -27,11 +27,13 @@ same-length c = search needs
 
 returns : tie.Need-returns
 returns c =
+    let named-at = c .before .before .before .before .before .named-at in
+    let remove = c .before .before .before .remove in
     let a = c .before .before .before .before .before .before .before .before .before .args in
     let L = layerOf (a .size) (a .bitmap .now) in
     let r = a .roll .now in
-    removal-step L (a .t) (a .at) (a .table .now) (c .before .before .before .remove .result) (namedAt r (a .at + 1))
-    (c .before .before .before .before .before .named-at .ensures) (c .before .before .before .remove .ensures .0) (c .step-after .ensures) (c .before .before .before .remove .ensures .1)
+    removal-step L (a .t) (a .at) (a .table .now) (remove .result) (namedAt r (a .at + 1))
+    (named-at .ensures) (remove .ensures .0) (c .step-after .ensures) (remove .ensures .1)
 
 pub remove-at-spec : {M : Type 1} → statement M
 remove-at-spec =

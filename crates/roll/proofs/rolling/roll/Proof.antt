@@ -36,11 +36,12 @@ enum-told c = search needs
 
 run-requires : tie.Need-run-requires
 run-requires c κs =
+    let ask-all = c .before .before .before .ask-all in
     let a = c .before .before .before .before .before .before .before .before .args in
     let L = layerOf (sizeOf (a .w) (a .h)) (a .bitmap .now) in
     let t = a .table .now in
     let r = a .commands .now in
-    let both = append-all (heldQuestions L t) (rollAnswer r ∷ []) (sym (c .before .before .before .ask-all .ensures) ∙ c .before .enum-told .given .1) in
+    let both = append-all (heldQuestions L t) (rollAnswer r ∷ []) (sym (ask-all .ensures) ∙ c .before .enum-told .given .1) in
     (accepted-of L t (both .0), firstNo-yes (rollAnswer r) [] (both .1) .0)
 
 enum-known-answer : tie.Need-enum-known-answer
@@ -51,19 +52,23 @@ same-length c = search needs
 
 returns : tie.Need-returns
 returns c =
+    let ask-all = c .before .before .before .before .before .before .ask-all in
+    let enum-told = c .before .before .before .before .enum-told in
+    let run = c .before .before .run in
     let a = c .before .before .before .before .before .before .before .before .before .before .before .args in
     let L = layerOf (sizeOf (a .w) (a .h)) (a .bitmap .now) in
-    c .before .before .run .ensures ∙ sym (outcome-is L (a .t) (a .commands .now) (a .table .now) Yes (sym (c .before .before .before .before .before .before .ask-all .ensures) ∙ c .before .before .before .before .enum-told .given .1))
+    run .ensures ∙ sym (outcome-is L (a .t) (a .commands .now) (a .table .now) Yes (sym (ask-all .ensures) ∙ enum-told .given .1))
 
 same-length-2 : tie.Need-same-length-2
 same-length-2 c = search needs
 
 returns-2 : tie.Need-returns-2
 returns-2 c =
+    let ask-all = c .before .before .before .ask-all in
     let a = c .before .before .before .before .before .before .before .before .args in
     let L = layerOf (sizeOf (a .w) (a .h)) (a .bitmap .now) in
     let answer = c .before .answer .given in
-    sym (outcome-is L (a .t) (a .commands .now) (a .table .now) (No (answer .0 .0) (answer .0 .1 .0)) (sym (c .before .before .before .ask-all .ensures) ∙ answer .1))
+    sym (outcome-is L (a .t) (a .commands .now) (a .table .now) (No (answer .0 .0) (answer .0 .1 .0)) (sym (ask-all .ensures) ∙ answer .1))
 
 pub roll-spec : {M : Type 1} → statement M
 roll-spec =

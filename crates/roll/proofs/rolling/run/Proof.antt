@@ -18,8 +18,9 @@ abbrev μ-loop : tie.MeasureT-loop
 
 loop-holds : tie.Need-loop-holds Inv-loop μ-loop
 loop-holds c =
-    let a = c .before .before .before .args in
-    running-start (layerOf (a .size) (a .bitmap .now)) (a .t) (a .roll .now) (a .table .now) (c .before .before .before .pre .0) (c .before .before .before .pre .1)
+    let start = c .before .before .before in
+    let a = start .args in
+    running-start (layerOf (a .size) (a .bitmap .now)) (a .t) (a .roll .now) (a .table .now) (start .pre .0) (start .pre .1)
 
 run-command-requires : tie.Need-run-command-requires Inv-loop μ-loop
 unfolding formedFrom
@@ -39,20 +40,23 @@ add-done c =
 
 loop-less : tie.Need-loop-less Inv-loop μ-loop
 loop-less c =
+    let run-command = c .before .before .before .before .before .run-command in
     let a = c .before .before .before .before .before .before .before .before .before .before .before .args in
     let L = layerOf (a .size) (a .bitmap .now) in
     let r = a .roll .now in
     let loop = c .before .before .before .before .before .before .before .loop in
-    let further = running-further L (a .t) r (a .table .now) (loop .inv) (c .before .before .before .before .before .run-command .result) _ (c .before .before .before .before .before .run-command .ensures) (c .before .step .given .1) in
+    let further =
+    running-further L (a .t) r (a .table .now) (loop .inv) (run-command .result) _ (run-command .ensures) (c .before .step .given .1) in
     omega (arith, further)
 
 loop-again : tie.Need-loop-again Inv-loop μ-loop
 loop-again c =
+    let run-command = c .before .before .before .before .before .run-command in
     let a = c .before .before .before .before .before .before .before .before .before .before .before .args in
     let L = layerOf (a .size) (a .bitmap .now) in
     let r = a .roll .now in
     let loop = c .before .before .before .before .before .before .before .loop in
-    running-on L (a .t) r (a .table .now) (loop .inv) (c .before .before .before .before .before .run-command .result) _ (c .before .before .before .before .before .run-command .ensures) (c .before .step .given .1)
+    running-on L (a .t) r (a .table .now) (loop .inv) (run-command .result) _ (run-command .ensures) (c .before .step .given .1)
 
 enum-told : tie.Need-enum-told Inv-loop μ-loop
 enum-told c = search needs
@@ -63,11 +67,12 @@ same-length c = search needs
 returns : tie.Need-returns Inv-loop μ-loop
 unfolding ranFrom
 returns c =
+    let run-command = c .before .before .before .before .run-command in
     let a = c .before .before .before .before .before .before .before .before .before .before .args in
     let L = layerOf (a .size) (a .bitmap .now) in
     let r = a .roll .now in
     let loop = c .before .before .before .before .before .before .loop in
-    running-end L (a .t) r (a .table .now) (loop .inv) (c .before .before .before .before .run-command .result) _ (c .before .before .before .before .run-command .ensures) (c .enum-told .given .1)
+    running-end L (a .t) r (a .table .now) (loop .inv) (run-command .result) _ (run-command .ensures) (c .enum-told .given .1)
 
 enum-known-step-2 : tie.Need-enum-known-step-2 Inv-loop μ-loop
 enum-known-step-2 c = search needs
@@ -78,11 +83,12 @@ same-length-2 c = search needs
 returns-2 : tie.Need-returns-2 Inv-loop μ-loop
 unfolding ranFrom
 returns-2 c =
+    let run-command = c .before .before .before .before .before .run-command in
     let a = c .before .before .before .before .before .before .before .before .before .before .before .args in
     let L = layerOf (a .size) (a .bitmap .now) in
     let r = a .roll .now in
     let loop = c .before .before .before .before .before .before .before .loop in
-    running-stop L (a .t) r (a .table .now) (loop .inv) (c .before .before .before .before .before .run-command .result) _ (c .before .before .before .before .before .run-command .ensures) (c .before .step2 .given .1)
+    running-stop L (a .t) r (a .table .now) (loop .inv) (run-command .result) _ (run-command .ensures) (c .before .step2 .given .1)
 
 pub run-spec : {M : Type 1} → statement M
 run-spec =

@@ -10,17 +10,20 @@ use Rattle.roll.proofs.rolling.run_command.Tie as tie
 shared-slice-read-byte : tie.Need-shared-slice-read-byte
 unfolding formedFrom
 shared-slice-read-byte c =
-    formed-below (c .before .before .before .before .args .roll .now) (c .before .before .before .before .args .at) (c .before .before .before .before .pre .1)
+    let start = c .before .before .before .before in
+    formed-below (start .args .roll .now) (start .args .at) (start .pre .1)
 
 slide-at-requires : tie.Need-slide-at-requires
 unfolding formedFrom
 slide-at-requires c κs =
-    (c .before .before .before .before .before .before .pre .0, slide-whole (c .before .before .before .before .before .before .args .roll .now) (c .before .before .before .before .before .before .args .at) (c .before .before .before .before .before .before .pre .1) (c .before .match .keys1))
+    let start = c .before .before .before .before .before .before in
+    (start .pre .0, slide-whole (start .args .roll .now) (start .args .at) (start .pre .1) (c .before .match .keys1))
 
 remove-at-requires : tie.Need-remove-at-requires
 unfolding formedFrom
 remove-at-requires c κs =
-    (c .before .before .before .before .before .before .pre .0, removal-whole (c .before .before .before .before .before .before .args .roll .now) (c .before .before .before .before .before .before .args .at) (c .before .before .before .before .before .before .pre .1) (c .before .match .keys2))
+    let start = c .before .before .before .before .before .before in
+    (start .pre .0, removal-whole (start .args .roll .now) (start .args .at) (start .pre .1) (c .before .match .keys2))
 
 same-length : tie.Need-same-length
 same-length c = search needs
@@ -28,11 +31,14 @@ same-length c = search needs
 returns : tie.Need-returns
 unfolding formedFrom
 returns c =
-    let a = c .before .before .before .before .before .before .before .before .before .args in
+    let start = c .before .before .before .before .before .before .before .before .before in
+    let arm = c .before .before .before .before .match in
+    let slide-at = c .before .before .slide-at in
+    let a = start .args in
     let L = layerOf (a .size) (a .bitmap .now) in
     let r = a .roll .now in
-    c .before .before .slide-at .ensures
-    ∙ step-is L (a .t) r (a .at) (a .table .now) (at-slide r (a .at) (c .before .before .before .before .match .keys1) (slide-whole r (a .at) (c .before .before .before .before .before .before .before .before .before .pre .1) (c .before .before .before .before .match .keys1)))
+    slide-at .ensures
+    ∙ step-is L (a .t) r (a .at) (a .table .now) (at-slide r (a .at) (arm .keys1) (slide-whole r (a .at) (start .pre .1) (arm .keys1)))
 
 same-length-2 : tie.Need-same-length-2
 same-length-2 c = search needs
@@ -40,19 +46,23 @@ same-length-2 c = search needs
 returns-2 : tie.Need-returns-2
 unfolding formedFrom
 returns-2 c =
-    let a = c .before .before .before .before .before .before .before .before .before .args in
+    let start = c .before .before .before .before .before .before .before .before .before in
+    let arm = c .before .before .before .before .match in
+    let remove-at = c .before .before .remove-at in
+    let a = start .args in
     let L = layerOf (a .size) (a .bitmap .now) in
     let r = a .roll .now in
-    c .before .before .remove-at .ensures
-    ∙ step-is L (a .t) r (a .at) (a .table .now) (at-removal r (a .at) (c .before .before .before .before .match .keys2) (removal-whole r (a .at) (c .before .before .before .before .before .before .before .before .before .pre .1) (c .before .before .before .before .match .keys2)))
+    remove-at .ensures
+    ∙ step-is L (a .t) r (a .at) (a .table .now) (at-removal r (a .at) (arm .keys2) (removal-whole r (a .at) (start .pre .1) (arm .keys2)))
 
 returns-3 : tie.Need-returns-3
 unfolding formedFrom
 returns-3 c =
-    let a = c .before .before .before .before .before .args in
+    let start = c .before .before .before .before .before in
+    let a = start .args in
     let L = layerOf (a .size) (a .bitmap .now) in
     let r = a .roll .now in
-    step-is L (a .t) r (a .at) (a .table .now) (at-end r (a .at) (c .match .keys3) (formed-below r (a .at) (c .before .before .before .before .before .pre .1)))
+    step-is L (a .t) r (a .at) (a .table .now) (at-end r (a .at) (c .match .keys3) (formed-below r (a .at) (start .pre .1)))
 
 returns-4 : tie.Need-returns-4
 returns-4 c =

@@ -34,11 +34,13 @@ same-length c = search needs
 
 returns : tie.Need-returns
 returns c =
+    let named-at = c .before .before .before .before .before .before .named-at in
+    let slide = c .before .before .before .slide in
     let a = c .before .before .before .before .before .before .before .before .before .before .args in
     let L = layerOf (a .size) (a .bitmap .now) in
     let r = a .roll .now in
-    slide-step L (a .t) (a .at) (a .table .now) (c .before .before .before .slide .result) (namedAt r (a .at + 1)) (getD r (a .at + 6) 0)
-    (c .before .before .before .before .before .before .named-at .ensures) (c .before .before .before .slide .ensures .0) (c .step-after .ensures) (c .before .before .before .slide .ensures .1)
+    slide-step L (a .t) (a .at) (a .table .now) (slide .result) (namedAt r (a .at + 1)) (getD r (a .at + 6) 0)
+    (named-at .ensures) (slide .ensures .0) (c .step-after .ensures) (slide .ensures .1)
 
 pub slide-at-spec : {M : Type 1} → statement M
 slide-at-spec =
