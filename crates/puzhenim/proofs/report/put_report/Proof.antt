@@ -1,9 +1,9 @@
--- `put_figures` meets its contract.
+-- `report.put_report` meets its contract.
 use native.Mathlib.Omega.{arith}
 use borrow.Author.Needs.{needs}
 use lib.ListN.{length-set}
-use Rattle.puzhenim.proofs.put_figures.Statement.{statement}
-use Rattle.puzhenim.proofs.put_figures.Tie as tie
+use Rattle.puzhenim.proofs.report.put_report.Statement.{statement}
+use Rattle.puzhenim.proofs.report.put_report.Tie as tie
 
 slice-write-figures : tie.Need-slice-write-figures
 slice-write-figures c = search needs
@@ -23,8 +23,8 @@ same-length c = search needs
 returns : tie.Need-returns
 returns c = search needs
 
-pub put-figures-spec : {M : Type 1} → statement M
-put-figures-spec =
+pub put-report-spec : {M : Type 1} → statement M
+put-report-spec =
     tie.close
     (tie.spec
     slice-write-figures

@@ -1,0 +1,36 @@
+-- The two ways that an exported function goes: too few figures, or the call and its report stored. Every function cites these.
+use mathlib.Core.Path.{_≡_, sym, _∙_}
+use mathlib.Core.List.{List}
+use Prim.Native.Nat.{ℕ, _<_, _≤_}
+use borrow.Author.Tests.{lt-ltb, le-ltb}
+use lib.ListN.{length}
+use Rattle.puzhenim.specs.declared.report.Report.{Report}
+use Rattle.puzhenim.specs.Face.{Result, Face, fourFigures, face}
+
+pub short-face : {B : Type 0} (figures : List ℕ) (found : B) (result : Result B) → length figures < 4
+    → record { number = 14; buffers = found; figures = figures } ≡ face figures found result
+unfolding face
+short-face figures found result h = rw (lt-ltb (length figures) 4 h)
+
+pub stored-face : {B : Type 0} {after : B} {result : Result B} {figures′ : List ℕ} {n : ℕ} {r : Report} (figures : List ℕ) (found : B)
+    → 4 ≤ length figures
+    → record { report = r; buffers = after } ≡ result
+    → (n ≡ r .number) × (figures′ ≡ fourFigures r figures)
+    → record { number = n; buffers = after; figures = figures′ } ≡ face figures found result
+unfolding face
+stored-face figures found h told put =
+    rw (le-ltb (length figures) 4 h)
+    (λ i. record {
+      number = (put .0 ∙ (λ j. told j .report .number)) i;
+      buffers = told i .buffers;
+      figures = (put .1 ∙ (λ j. fourFigures (told j .report) figures)) i;
+    })
+
+-- an answer's report, from the case that the answer is
+pub told-by : {A B : Type 0} {answer case : A} {after : B} {r told : Report} (result : A → Result B)
+    → r ≡ told
+    → answer ≡ case
+    → record { report = told; buffers = after } ≡ result case
+    → record { report = r; buffers = after } ≡ result answer
+told-by {after = after} result e same is =
+    (λ i. record { report = e i; buffers = after }) ∙ (is ∙ (λ i. result (sym same i)))

@@ -1,0 +1,2 @@
+-- Laws of the exported face.
+pub mod Faces

@@ -1,0 +1,170 @@
+// What a call reports through the exported face: a number, a place and three figures, made of each call's answer and stored.
+use grid::Refusal;
+use planner::Planned;
+use roll::Rolled;
+use sheet::SheetRead;
+use sheet::Written;
+use simplify::Simplified;
+use smooth::Smoothing;
+use trace::Counted;
+use trace::Traced;
+ghost use mathlib.Core.Path.{_≡_};
+ghost use mathlib.Core.Bool.{cond};
+ghost use mathlib.Core.List.{List};
+ghost use Prim.Native.Nat.{ℕ, _≤_};
+ghost use lib.Ieee.{Float};
+ghost use lib.ListN.{length};
+ghost use Rattle.grid.specs.Questions.{numberOf};
+ghost use Rattle.trace.specs.Trace as Trace;
+ghost use Rattle.trace.specs.Counts as Counts;
+ghost use Rattle.smooth.specs.Call as Smooth;
+ghost use Rattle.simplify.specs.Call as Simplify;
+ghost use Rattle.roll.specs.Roll as Roll;
+ghost use Rattle.sheet.specs.Written as Write;
+ghost use Rattle.sheet.specs.Reading as Read;
+ghost use Rattle.planner.specs.Plan as Plan;
+ghost use Rattle.puzhenim.specs.Face.{fourFigures, Outputs, traceResult, countsResult, smoothResult, simplifyResult, rollResult, writeResult, readResult, planResult};
+
+pub struct Report {
+    number: u32,
+    place: usize,
+    one: usize,
+    two: usize,
+    three: usize,
+}
+
+// Stores the place and the figures, and returns the number.
+pub fn put_report(figures: &mut [u64], report: Report) -> u32
+    requires { ⌜ 4 ≤ length (now figures) ⌝ }
+    ensures { λ r. ⌜ r ≡ report .number ⌝ }
+    ensures { λ r. ⌜ now (figures .exit) ≡ fourFigures report (now (figures .entry)) ⌝ }
+{
+    figures[0] = report.place as u64;
+    figures[1] = report.one as u64;
+    figures[2] = report.two as u64;
+    figures[3] = report.three as u64;
+    report.number
+}
+
+// A refused call reports the question's number and its place. All its other figures are 0.
+fn refused_report(q: Refusal, place: usize) -> Report
+    ensures { λ r. ⌜ r ≡ record { number = numberOf q; place = place; one = 0; two = 0; three = 0 } ⌝ }
+{
+    Report {
+        number: grid::refusal_number(q),
+        place,
+        one: 0,
+        two: 0,
+        three: 0,
+    }
+}
+
+// A call that is done reports its figures.
+fn done_report(one: usize, two: usize, three: usize) -> Report
+    ensures { λ r. ⌜ r ≡ record { number = 0; place = 0; one = one; two = two; three = three } ⌝ }
+{
+    Report {
+        number: 0,
+        place: 0,
+        one,
+        two,
+        three,
+    }
+}
+
+fn one_if(b: bool) -> usize
+    ensures { λ r. ⌜ r ≡ cond b 1 0 ⌝ }
+{
+    if b { 1 } else { 0 }
+}
+
+pub fn traced_report(answer: Traced) -> Report
+    ensures { λ r. ⌜ ((t : List ℕ) → record { report = r; buffers = t } ≡ traceResult (Trace.outcome answer t)) ⌝ }
+{
+    match answer {
+        Traced::Done => done_report(0, 0, 0),
+        Traced::Refused(q, place) => refused_report(q, place),
+    }
+}
+
+pub fn counted_report(answer: Counted) -> Report
+    ensures { λ r. ⌜ record { report = r; buffers = tt } ≡ countsResult (Counts.figuresOf answer) ⌝ }
+{
+    match answer {
+        Counted::Done {
+            inside,
+            sticks,
+            contours,
+        } => done_report(inside, sticks, contours),
+        Counted::Refused(q, place) => refused_report(q, place),
+    }
+}
+
+pub fn smoothed_report(answer: Smoothing) -> Report
+    ensures { λ r. ⌜ ((t : List ℕ) → record { report = r; buffers = t } ≡ smoothResult (Smooth.outcome answer t)) ⌝ }
+{
+    match answer {
+        Smoothing::Done {
+            passes,
+            total,
+            settled,
+        } => done_report(passes, total, one_if(settled)),
+        Smoothing::Refused(q, place) => refused_report(q, place),
+    }
+}
+
+pub fn simplified_report(answer: Simplified) -> Report
+    ensures { λ r. ⌜ ((t : List ℕ) → record { report = r; buffers = t } ≡ simplifyResult (Simplify.outcome answer t)) ⌝ }
+{
+    match answer {
+        Simplified::Done { removed, tried } => done_report(removed, tried, 0),
+        Simplified::Refused(q, place) => refused_report(q, place),
+    }
+}
+
+// Also a refused roll tells how many commands were done.
+pub fn rolled_report(answer: Rolled) -> Report
+    ensures { λ r. ⌜ ((t : List ℕ) → record { report = r; buffers = t } ≡ rollResult (Roll.outcome answer t)) ⌝ }
+{
+    match answer {
+        Rolled::Done(done) => done_report(done, 0, 0),
+        Rolled::Refused {
+            question,
+            place,
+            done,
+        } => Report {
+            number: grid::refusal_number(question),
+            place,
+            one: done,
+            two: 0,
+            three: 0,
+        },
+    }
+}
+
+pub fn written_report(answer: Written) -> Report
+    ensures { λ r. ⌜ ((out : List ℕ) → record { report = r; buffers = out } ≡ writeResult (Write.outcome answer out)) ⌝ }
+{
+    match answer {
+        Written::Done(length) => done_report(length, 0, 0),
+        Written::Refused(q, place) => refused_report(q, place),
+    }
+}
+
+pub fn read_report(answer: SheetRead) -> Report
+    ensures { λ r. ⌜ ((t : List ℕ) → record { report = r; buffers = t } ≡ readResult (Read.outcome answer t)) ⌝ }
+{
+    match answer {
+        SheetRead::Done => done_report(0, 0, 0),
+        SheetRead::Refused(q, place) => refused_report(q, place),
+    }
+}
+
+pub fn planned_report(answer: Planned) -> Report
+    ensures { λ r. ⌜ ((out : Outputs) → record { report = r; buffers = out } ≡ planResult (Plan.outcome answer (out .items) (out .points))) ⌝ }
+{
+    match answer {
+        Planned::Done { items, floats } => done_report(items, floats, 0),
+        Planned::Refused(q, place) => refused_report(q, place),
+    }
+}
