@@ -137,13 +137,17 @@ impl Builder {
         edit_bytes(edge.kind, edge.c as u16, edge.r as u16, offset)
     }
 
-    /// Would this edit be done on this table?
-    pub fn is_done(&self, table: &mut [u16], edit: &[u8], t: u8) -> bool {
+    /// What a roll of this edit alone gets on this table, 0 if it is done.
+    pub fn answer_to(&self, table: &mut [u16], edit: &[u8], t: u8) -> u64 {
         let one = [edit, &[0x45]].concat();
         let machine = &self.machine;
-        roll(machine.w, machine.h, &machine.bitmap, table, t, &one)
-            .refusal
-            .is_none()
+        let rolled = roll(machine.w, machine.h, &machine.bitmap, table, t, &one);
+        rolled.refusal.map_or(0, |refusal| refusal.number)
+    }
+
+    /// Would this edit be done on this table?
+    pub fn is_done(&self, table: &mut [u16], edit: &[u8], t: u8) -> bool {
+        self.answer_to(table, edit, t) == 0
     }
 
     /// A random layer on which a good many vertices can be removed, or any one.

@@ -115,12 +115,25 @@ fn each_way_in_each_contour(b: &mut Builder) {
             let removed = (0..n).filter(|i| !kept.contains(i));
             removed.map(|i| contour[i]).collect()
         };
-        for kept in [&[][..], &[0], &[0, 6], &[0, 1, 6, 7], &[1, 2, 7, 8], &[0, 3, 6], &[5, 6, 11], &[2, 4, 8, 10]] {
+        for kept in [
+            &[][..],
+            &[0],
+            &[0, 6],
+            &[0, 1, 6, 7],
+            &[1, 2, 7, 8],
+            &[0, 3, 6],
+            &[5, 6, 11],
+            &[2, 4, 8, 10],
+        ] {
             held_without(b, &bars, &all_but(kept));
         }
         for i in 0..n {
             held_without(b, &bars, &[contour[i]]);
-            held_without(b, &bars, &[contour[i], contour[(i + 1) % n], contour[(i + 2) % n]]);
+            held_without(
+                b,
+                &bars,
+                &[contour[i], contour[(i + 1) % n], contour[(i + 2) % n]],
+            );
         }
     }
 }
@@ -184,6 +197,25 @@ fn slid_bar(b: &mut Builder) {
     b.poke(lower_middle, 140);
 }
 
+/// Simplifies random layers as traced, smoothed, slid at random, and slid and
+/// then smoothed, three of each.
+fn traced_smoothed_and_slid(b: &mut Builder, t: u8) {
+    for (slides, smooths) in [(false, false), (false, true), (true, false), (true, true)] {
+        for limit in [1, 5, 100] {
+            let layer = b.some_layer(18);
+            b.traced(&layer);
+            if slides {
+                let sixteenths = b.rng.pick(&[4, 16]);
+                b.jitter(sixteenths);
+            }
+            if smooths {
+                b.add(Command::Smooth { limit });
+            }
+            b.add(Command::Simplify { t });
+        }
+    }
+}
+
 /// Simplify: B, M, P, T, S and Y only.
 pub fn simplify(b: &mut Builder) {
     let call = plain(Command::Simplify { t: 86 });
@@ -201,16 +233,8 @@ pub fn simplify(b: &mut Builder) {
         let t = b.rng.pick(&TOLERANCES);
         b.add(Command::Simplify { t });
     }
-    for i in 0..80 {
-        let layer = b.some_layer(18);
-        b.traced(&layer);
-        let sixteenths = b.rng.pick(&[0, 0, 4, 16]);
-        b.jitter(sixteenths);
-        let limit = b.rng.pick(&[0, 1, 5, 100]);
-        b.add(Command::Smooth { limit });
-        b.add(Command::Simplify {
-            t: TOLERANCES[i % 9],
-        });
+    for t in TOLERANCES {
+        traced_smoothed_and_slid(b, t);
     }
     let large = discs(b);
     b.traced(&large);
@@ -403,6 +427,133 @@ fn slides_beside_removed(b: &mut Builder) {
     }
 }
 
+/// Slides of vertices between removed ones, with a T of 0: where one redrawn edge
+/// does not cross and the other is beyond T, it is 11.
+fn slides_between_removed(b: &mut Builder) {
+    for _ in 0..5 {
+        let layer = round_layer(b, 24, 20);
+        b.traced(&layer);
+        b.add(Command::Simplify { t: 255 });
+        let table = b.machine.table.clone();
+        for contour in contours(&layer) {
+            let n = contour.len();
+            let removed = |i: usize| is_removed(table[contour[i % n]]);
+            for i in (0..n).filter(|&i| !removed(i) && removed(i + 1) && removed(i + n - 1)) {
+                for offset in [1, 255] {
+                    let bytes = [b.edit(contour[i], Some(offset)), vec![0x45]].concat();
+                    b.add(Command::Roll { t: 0, bytes });
+                }
+            }
+        }
+    }
+}
+
+/// Discs and rings with forty sticks or more, so that vertices can be removed.
+fn round_layer(b: &mut Builder, w: usize, h: usize) -> Layer {
+    loop {
+        let layer = picture::discs(&mut b.rng, w, h, 6);
+        let sticks = (0..layer.edge_count()).filter(|&number| layer.is_stick(number));
+        if sticks.count() >= 40 {
+            return layer;
+        }
+    }
+}
+
+/// A layer with its table as traced, smoothed, simplified, or simplified and
+/// edited by a roll.
+fn layer_in_state(b: &mut Builder, state: usize) {
+    let layer = round_layer(b, 24, 20);
+    b.traced(&layer);
+    if state > 0 {
+        b.add(Command::Smooth { limit: 6 });
+    }
+    if state > 1 {
+        b.add(Command::Simplify { t: 40 });
+    }
+    if state > 2 {
+        let bytes = random_roll(b, 64, 20);
+        b.add(Command::Roll { t: 64, bytes });
+    }
+}
+
+/// An edit that gets this answer on the table (0: it is done), if one is found;
+/// a done one is made on the table.
+fn edit_that_gets(b: &mut Builder, table: &mut [u16], t: u8, number: u64) -> Option<Vec<u8>> {
+    for _ in 0..400 {
+        let edit = random_edit(b, table);
+        let mut after = table.to_vec();
+        if b.answer_to(&mut after, &edit, t) == number {
+            table.copy_from_slice(&after);
+            return Some(edit);
+        }
+    }
+    None
+}
+
+/// Done edits, one that gets this answer, and one more that would be done after.
+fn refused_after(b: &mut Builder, t: u8, done: usize, number: u64) -> Option<Vec<u8>> {
+    let mut table = b.machine.table.clone();
+    let mut bytes = Vec::new();
+    for _ in 0..done {
+        bytes.extend(edit_that_gets(b, &mut table, t, 0)?);
+    }
+    bytes.extend(edit_that_gets(b, &mut table, t, number)?);
+    bytes.extend(edit_that_gets(b, &mut table, t, 0)?);
+    Some(bytes)
+}
+
+/// Refusals 9 to 12, each at the first command and at later ones, and 8 at the
+/// same places, on a layer that is set.
+fn each_refusal(b: &mut Builder) {
+    for t in [0, 12, 64] {
+        for number in 9..13 {
+            for done in [0, 1, 2, 9] {
+                if let Some(mut bytes) = refused_after(b, t, done, number) {
+                    bytes.push(0x45);
+                    b.add(Command::Roll { t, bytes });
+                }
+            }
+        }
+        for done in [0, 1, 2, 9] {
+            if let Some(mut bytes) = refused_after(b, t, done, 0) {
+                let cut = b.rng.below(6);
+                bytes.truncate(bytes.len() - cut);
+                bytes.extend(b.rng.pick(&[&[][..], &[0x45, 0x45], &[0x46], &[0x53]]));
+                b.add(Command::Roll { t, bytes });
+            }
+        }
+    }
+}
+
+/// Rolls of thousands of edits on one layer: all done, then one that stops
+/// partway, then one stick slid to and fro.
+fn long_rolls(b: &mut Builder) {
+    let layer = round_layer(b, 40, 36);
+    b.traced(&layer);
+    let t = 200;
+    let mut table = b.machine.table.clone();
+    let mut bytes = Vec::new();
+    for _ in 0..3000 {
+        bytes.extend(edit_that_gets(b, &mut table, t, 0).unwrap_or_default());
+    }
+    bytes.push(0x45);
+    let again = bytes.clone();
+    b.add(Command::Roll { t, bytes });
+    b.traced(&layer);
+    b.add(Command::Roll {
+        t: 20,
+        bytes: again,
+    });
+    b.traced(&layer);
+    let stick = b.sticks()[0];
+    let mut bytes = Vec::new();
+    for i in 0..5000 {
+        bytes.extend(b.edit(stick, Some((i % 255 + 1) as u8)));
+    }
+    bytes.push(0x45);
+    b.add(Command::Roll { t, bytes });
+}
+
 /// Roll: B, M, P, T, S, Y and R only.
 pub fn roll(b: &mut Builder) {
     let nothing = plain(Command::Roll {
@@ -421,6 +572,7 @@ pub fn roll(b: &mut Builder) {
     far_sticks(b);
     roll_cases(b);
     slides_beside_removed(b);
+    slides_between_removed(b);
     for i in 0..60 {
         let layer = b.some_layer(12);
         b.traced(&layer);
@@ -435,4 +587,9 @@ pub fn roll(b: &mut Builder) {
         let bytes = random_roll(b, t, tries);
         b.add(Command::Roll { t, bytes });
     }
+    for state in 0..4 {
+        layer_in_state(b, state);
+        each_refusal(b);
+    }
+    long_rolls(b);
 }

@@ -2,6 +2,7 @@
 // the layer program.
 
 use crate::builder::{exact_length, Builder};
+use crate::contour::contours;
 use crate::hold::is_kept;
 use crate::layer::Layer;
 use crate::picture;
@@ -42,14 +43,19 @@ fn first_layers() -> Vec<Layer> {
     ]
 }
 
-/// Writes into outputs of nearly right lengths, then reads back what was written
-/// over a scrambled table.
+/// Writes into outputs of the exact length, one short, longer and much shorter,
+/// then reads back what was written over a scrambled table.
 fn write_and_read(b: &mut Builder, layer: &Layer) {
     worked(b, layer);
     let sheet = b.sheet();
     let n = sheet.len() as u32;
-    let other = b.rng.below(n as usize) as u32;
-    for n in [n, n - 1, b.rng.pick(&[0, n + 1, n + 60, other])] {
+    let short = b.rng.below(n as usize) as u32;
+    for n in [
+        n,
+        n - 1,
+        b.rng.pick(&[n + 1, n + 60]),
+        b.rng.pick(&[0, short]),
+    ] {
         b.add(Command::WriteSheet { n });
     }
     b.table(layer.edge_count());
@@ -63,25 +69,71 @@ fn read(b: &mut Builder, sheet: Vec<u8>) {
     b.add(Command::ReadSheet { bytes: sheet });
 }
 
-/// The sheet of the paper's layer program, cut at each length and with each
-/// byte changed.
-fn damaged_example(b: &mut Builder) {
-    b.traced(&picture::shown("... .#. ..."));
+/// The sheet of the layer that is set, cut at each length, with each byte changed
+/// in several ways, and with extra bytes.
+fn damaged_everywhere(b: &mut Builder) {
     let sheet = b.sheet();
     for cut in 0..sheet.len() {
         read(b, sheet[..cut].to_vec());
     }
     for i in 0..sheet.len() {
-        let mut changed = sheet.clone();
-        changed[i] = b.rng.pick(&[0, 0x45, 0x4B, 0x52, 0xFF, sheet[i] ^ 1]);
-        read(b, changed);
+        let byte = sheet[i];
+        for value in [
+            0,
+            0x43,
+            0x45,
+            0x4B,
+            0x52,
+            0xFF,
+            byte ^ 1,
+            byte ^ 0x20,
+            byte.wrapping_add(1),
+        ] {
+            let mut changed = sheet.clone();
+            changed[i] = value;
+            read(b, changed);
+        }
+        let added = b.rng.pick(&[0x00, 0x43, 0x45, 0x4B, 0x52]);
+        read(b, [&sheet[..i], &[added], &sheet[i..]].concat());
+        read(b, [&sheet[..i], &sheet[i + 1..]].concat());
     }
     for extra in [0x00, 0x43, 0x45, 0x4B, 0x4C] {
         read(b, [&sheet[..], &[extra]].concat());
         read(b, [&sheet[..], &[extra, 0x45]].concat());
     }
+    read(b, [&sheet[..], &sheet].concat());
     let lower_case: Vec<u8> = sheet.iter().map(|byte| byte ^ 0x20).collect();
     read(b, lower_case);
+}
+
+/// Two small sheets damaged: of the paper's layer program, and of two contours
+/// with a removed vertex in the second.
+fn damaged_examples(b: &mut Builder) {
+    b.traced(&picture::shown("... .#. ..."));
+    b.add(Command::Smooth { limit: 100 });
+    damaged_everywhere(b);
+    b.traced(&picture::shown("..... .###. ..... ..#.. ....."));
+    let removed = contours(&b.current())[1][1];
+    b.poke(removed, 384);
+    damaged_everywhere(b);
+}
+
+/// Sheets of layers that are not held: each choice of removed vertices of a bar,
+/// as the second of three contours; whole, without the end and with a byte more,
+/// since 8 comes before 7.
+fn sheets_not_held(b: &mut Builder) {
+    b.traced(&picture::shown("..... .#... ..... .##.. ..... .#... ....."));
+    let sheet = b.sheet();
+    let second = 5 + (6 + 2 * 4) + 6;
+    for removed in 1..64u32 {
+        let mut changed = sheet.clone();
+        for i in (0..6).filter(|i| removed >> i & 1 == 1) {
+            changed[second + 2 * i] = 0x52;
+        }
+        read(b, changed[..changed.len() - 1].to_vec());
+        read(b, [&changed[..], &[0x45]].concat());
+        read(b, changed);
+    }
 }
 
 /// One damage to a sheet: a byte changed, put in or taken out, a part cut off,
@@ -137,7 +189,8 @@ pub fn sheet(b: &mut Builder) {
         let layer = picture::random(&mut b.rng, w, h, 2);
         write_and_read(b, &layer);
     }
-    damaged_example(b);
+    damaged_examples(b);
+    sheets_not_held(b);
     for _ in 0..45 {
         let layer = b.some_layer(10);
         worked(b, &layer);

@@ -374,6 +374,35 @@ fn settling(wrong: &mut Wrong) {
     }
 }
 
+/// The set for Roll has each refusal 8 to 12 at the first command and at a later
+/// one, and a roll of thousands of commands.
+fn stops(wrong: &mut Wrong) {
+    let bytes = script("roll", None).expect("the set has this name");
+    let lines = answers(&parse(&bytes).expect("a set is a good script"));
+    let rolls: Vec<Vec<u64>> = lines
+        .lines()
+        .filter_map(|line| line.strip_prefix("R "))
+        .map(|words| {
+            words
+                .split(' ')
+                .filter_map(|word| word.parse().ok())
+                .collect()
+        })
+        .collect();
+    for number in 8..13 {
+        for first in [true, false] {
+            let found = rolls
+                .iter()
+                .any(|roll| roll[0] == number && (roll[1] == 0) == first);
+            expect(wrong, found, || {
+                format!("no {} of a roll, first: {}", number, first)
+            });
+        }
+    }
+    let long = rolls.iter().any(|roll| roll[0] == 0 && roll[2] >= 3000);
+    expect(wrong, long, || "no long roll".to_string());
+}
+
 /// Does the line answer the calls that the set is about?
 fn is_main(name: &str, line: &str) -> bool {
     let letters = match name {
@@ -402,5 +431,6 @@ pub fn wrong(seed: Option<u64>) -> Vec<String> {
     call_lists(&mut wrong, rng.next());
     sets(&mut wrong, seed);
     settling(&mut wrong);
+    stops(&mut wrong);
     wrong
 }

@@ -48,7 +48,14 @@ pub fn is_over(state: State) -> bool {
 }
 
 // Reads a command and carries it out.
-pub fn turn(input: &mut [u8], bitmap: &mut [u8], table: &mut [u16], state: State) -> State {
+pub fn turn(
+    input: &mut [u8],
+    bitmap: &mut [u8],
+    table: &mut [u16],
+    text: &mut [u8],
+    points: &mut [f64],
+    state: State,
+) -> State {
     let byte = reader::take_u8(input, state.reader);
     let letter = byte.value;
     let begun = read_to(state, byte.next);
@@ -57,7 +64,7 @@ pub fn turn(input: &mut [u8], bitmap: &mut [u8], table: &mut [u16], state: State
         b'M' => set_table(input, table, begun),
         b'P' => set_entry(input, table, begun),
         b'E' => end(begun),
-        _ => answer_call(letter, input, bitmap, table, begun),
+        _ => answer_call(letter, input, bitmap, table, text, points, begun),
     }
 }
 

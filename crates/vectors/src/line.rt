@@ -22,10 +22,15 @@ pub fn done(figures: [u64; 4], count: usize) -> Answer {
 
 // The figures of a refused call are 0.
 pub fn refused(question: Refusal, place: usize, count: usize) -> Answer {
+    refused_with(question, place, [0u64; 4], count)
+}
+
+// Those that a refused call has all the same: the digest of an output, the commands done.
+pub fn refused_with(question: Refusal, place: usize, figures: [u64; 4], count: usize) -> Answer {
     Answer {
         number: grid::refusal_number(question),
         place,
-        figures: [0u64; 4],
+        figures,
         count,
     }
 }

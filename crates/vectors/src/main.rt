@@ -4,7 +4,9 @@ mod call;
 mod command;
 mod digest;
 mod line;
+mod output;
 mod reader;
+mod text;
 
 use libc::STDOUT_FILENO;
 
@@ -15,15 +17,26 @@ const TABLE_LIMIT: usize = 2095200;
 
 const INPUT_LIMIT: usize = 65536;
 
+// The longest roll, sheet or output of bytes, and the longest output of floats.
+const TEXT_LIMIT: usize = 500000;
+
+const POINTS_LIMIT: usize = 32768;
+
 // More commands than any script has.
 const COMMAND_LIMIT: u32 = 1000000;
 
 // Carries out the commands of a script up to its end, and answers true, or up to one that is wrong, and answers false.
-fn run(input: &mut [u8], bitmap: &mut [u8], table: &mut [u16]) -> bool {
+fn run(
+    input: &mut [u8],
+    bitmap: &mut [u8],
+    table: &mut [u16],
+    text: &mut [u8],
+    points: &mut [f64],
+) -> bool {
     let mut state = command::start();
     let mut left = COMMAND_LIMIT;
     while left > 0 {
-        state = command::turn(input, bitmap, table, state);
+        state = command::turn(input, bitmap, table, text, points, state);
         if command::is_over(state) {
             return state.ended;
         }
@@ -36,7 +49,9 @@ fn main() {
     let mut input = [0u8; INPUT_LIMIT];
     let mut bitmap = [0u8; BITMAP_LIMIT];
     let mut table = [0u16; TABLE_LIMIT];
-    if !run(&mut input, &mut bitmap, &mut table) {
+    let mut text = [0u8; TEXT_LIMIT];
+    let mut points = [0.0f64; POINTS_LIMIT];
+    if !run(&mut input, &mut bitmap, &mut table, &mut text, &mut points) {
         io::write_all(STDOUT_FILENO, b"?\n");
     }
 }

@@ -1,7 +1,8 @@
 -- The program is safe and ends.
--- The three arrays are too long for their lengths to be computed, so these come from a law on repeats.
+-- The five arrays are too long for their lengths to be computed, so these come from a law on repeats.
 use mathlib.Core.Path.{sym}
 use Prim.Native.Nat.{ℕ}
+use lib.Ieee.{Float, binary64, ofBits}
 use lib.ListN.{length-replicate}
 use borrow.Author.Needs.{needs}
 use Rattle.vectors.proofs.main.Statement.{statement}
@@ -14,6 +15,8 @@ main-spec =
     (λ c. sym (length-replicate {A = ℕ} 65536 0))
     (λ c. sym (length-replicate {A = ℕ} 131200 0))
     (λ c. sym (length-replicate {A = ℕ} 2095200 0))
+    (λ c. sym (length-replicate {A = ℕ} 500000 0))
+    (λ c. sym (length-replicate {A = Float} 32768 (ofBits binary64 0)))
     (λ c κs. search needs)
     (λ c. search needs)
     (λ c κs. search needs)

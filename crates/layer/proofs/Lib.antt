@@ -1,3 +1,0 @@
--- Laws that belong to no one function:
--- bounds on what the program writes.
-mod Bounds

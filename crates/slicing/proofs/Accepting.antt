@@ -1,0 +1,133 @@
+-- After an accepted Trace nothing is refused: neither Smooth, nor Simplify, nor the writing of the sheet to an output that holds it. So the
+-- program refuses exactly what Trace does, and what its command or its sides do. And no answer is longer than 28,230 bytes.
+use mathlib.Core.Path.{_≡_, refl, sym, ap, subst, _∙_}
+use mathlib.Core.Bool.{Bool, true, false, cond}
+use mathlib.Core.List.{List, [], _∷_}
+use Prim.Native.Nat.{ℕ, _≤_}
+use native.Mathlib.Omega.{arith}
+use borrow.Author.Tests.{eqb-true}
+use lib.Dec.{eqb, lit≤}
+use lib.ListN.{length, replicate}
+use lib.Seq.{length-sets}
+use Rattle.arith.specs.Booleans.{both-sides}
+use Rattle.arith.specs.Ranges.{tabulate, getD-tabulate}
+use Rattle.grid.specs.Layer.{Layer}
+use Rattle.grid.specs.Edges.{edgeCount, stickAt}
+use Rattle.grid.specs.Questions.{firstNo}
+use Rattle.grid.specs.declared.question.Refusal.the-variants as Refusal
+use Rattle.grid.specs.declared.question.Answer.{Answer}
+use Rattle.grid.specs.declared.question.Answer.the-variants.{Yes, No}
+use Rattle.grid.proofs.Answers.{number-some, append-yes, each-yes}
+use Rattle.table.specs.Entries.{entryOf, lengthQuestions, entriesAnswer}
+use Rattle.table.specs.Vertices.{isRemoved}
+use Rattle.table.specs.Kept.{isRemovedAt, allKeptAnswer}
+use Rattle.table.proofs.Lengths.{lengths-of}
+use Rattle.held.specs.Held.{heldAnswer}
+use Rattle.held.specs.Questions.{heldQuestions, keptQuestions, Accepted}
+use Rattle.trace.specs.Trace.{Outcome, tracedEntry, traceOf}
+use Rattle.trace.proofs.Held.{trace-opens}
+use Rattle.smooth.specs.Call.{smoothOf}
+use Rattle.smooth.proofs.Held as Smooth
+use Rattle.simplify.specs.Call.{simplifyOf}
+use Rattle.simplify.proofs.Outcomes as Simplify
+use Rattle.simplify.proofs.Held.{simplify-keeps}
+use Rattle.sheet.specs.Written.{sheetOf, writeOf}
+use Rattle.sheet.proofs.BytesAnswered.{written-done}
+use Rattle.slicing.specs.Slice.{wholeCommand, layerIn, sidesFit, thinned, bytesAfter, sliceOf, Result, stored, outcome}
+use Rattle.slicing.proofs.Bounds.{small-of, sheet-short}
+
+module _ (L : Layer) (t : List ℕ) (done : traceOf L t .refusal ≡ 0) where
+  -- what Trace was asked was answered yes
+  yes-5 : firstNo (lengthQuestions L (length t)) ≡ Yes
+  unfolding traceOf
+  yes-5 = by (firstNo (lengthQuestions L (length t))) refl done
+    where
+      by : (a : Answer) → firstNo (lengthQuestions L (length t)) ≡ a → traceOf L t .refusal ≡ 0 → firstNo (lengthQuestions L (length t)) ≡ Yes
+      by Yes e done = e
+      by (No q place) e done = absurd (omega (arith, number-some q, rw e at done))
+
+  -- so 1 to 7 are answered yes for each accepted table
+  pub held-yes : (u : List ℕ) → Accepted L u → firstNo (heldQuestions L u) ≡ Yes
+  held-yes u accepted =
+      let same : length u ≡ length t = accepted .exact ∙ sym (lengths-of L (length t) yes-5 .1) in
+      let five : firstNo (lengthQuestions L (length u)) ≡ Yes = ap (λ (n : ℕ). firstNo (lengthQuestions L n)) same ∙ yes-5 in
+      let last : firstNo (entriesAnswer L u ∷ heldAnswer L u ∷ []) ≡ Yes = rw (accepted .entries, accepted .held) in
+      sym (append-yes (lengthQuestions L (length u)) (entriesAnswer L u ∷ heldAnswer L u ∷ []) five) ∙ last
+
+  kept-yes : (u : List ℕ) → Accepted L u → allKeptAnswer (L .size) u ≡ Yes → firstNo (keptQuestions L u) ≡ Yes
+  kept-yes u accepted kept =
+      let last : firstNo (allKeptAnswer (L .size) u ∷ []) ≡ Yes = rw kept in
+      sym (append-yes (heldQuestions L u) (allKeptAnswer (L .size) u ∷ []) (held-yes u accepted)) ∙ last
+
+  -- Trace removes nothing
+  traced-kept : allKeptAnswer (L .size) (traceOf L t .table) ≡ Yes
+  unfolding allKeptAnswer traceOf entryOf
+  traced-kept =
+      let n = edgeCount (L .size) in
+      rw yes-5 (sym (each-yes Refusal.SomeRemoved (isRemovedAt (tabulate (tracedEntry L) n)) n λ k below.
+      rw (getD-tabulate (tracedEntry L) n k 0 below) (unremoved (stickAt L k))))
+    where
+      unremoved : (b : Bool) → isRemoved (entryOf (cond b 128 0)) ≡ false
+      unremoved true = refl
+      unremoved false = refl
+
+  traced-yes : firstNo (keptQuestions L (traceOf L t .table)) ≡ Yes
+  traced-yes = kept-yes (traceOf L t .table) (trace-opens L t done) traced-kept
+
+  -- what is written is a held layer
+  pub thinned-accepted : Accepted L (thinned L (traceOf L t .table))
+  unfolding thinned
+  thinned-accepted =
+      simplify-keeps L 64 (smoothOf L 100 (traceOf L t .table) .table)
+      (Smooth.smooth-keeps L 100 (traceOf L t .table) (trace-opens L t done))
+
+  pub thinned-yes : firstNo (heldQuestions L (thinned L (traceOf L t .table))) ≡ Yes
+  thinned-yes = held-yes (thinned L (traceOf L t .table)) thinned-accepted
+
+  pub smooth-done : smoothOf L 100 (traceOf L t .table) .refusal ≡ 0
+  smooth-done = rw (Smooth.outcome-is L 100 (traceOf L t .table) Yes traced-yes)
+
+  pub simplify-done : simplifyOf L 64 (smoothOf L 100 (traceOf L t .table) .table) .refusal ≡ 0
+  simplify-done =
+      let u = smoothOf L 100 (traceOf L t .table) .table in
+      let after = Smooth.smooth-held L 100 (traceOf L t .table) traced-yes in
+      rw (Simplify.outcome-is L u 64 Yes (kept-yes u (after .0) (after .1)))
+
+  pub write-done : (out : List ℕ) → length (sheetOf L (thinned L (traceOf L t .table))) ≤ length out
+      → writeOf L (thinned L (traceOf L t .table)) out .refusal ≡ 0
+  write-done out room = rw (written-done L (thinned L (traceOf L t .table)) out thinned-yes room)
+
+-- the same of the tables that a run leaves: t₁ after Trace, t₂ after Smooth and Simplify
+pub after-done : (L : Layer) (t t₁ t₂ : List ℕ) → record { refusal = 0; place = 0; table = t₁ } ≡ traceOf L t → t₂ ≡ thinned L t₁
+    → sidesFit (L .size) ≡ true → (firstNo (heldQuestions L t₂) ≡ Yes) × (length (sheetOf L t₂) ≤ 28230)
+after-done L t t₁ t₂ traced thin fits =
+    let done : traceOf L t .refusal ≡ 0 = sym (ap (λ (o : Outcome). o .refusal) traced) in
+    let is : thinned L (traceOf L t .table) ≡ t₂ = sym (thin ∙ ap (λ (o : Outcome). thinned L (o .table)) traced) in
+    let accepted = thinned-accepted L t done in
+    let short = sheet-short L (accepted .sound) (thinned L (traceOf L t .table)) (small-of (L .size) fits) (accepted .entries) in
+    (subst (λ (u : List ℕ). firstNo (heldQuestions L u) ≡ Yes) is (thinned-yes L t done), subst (λ (u : List ℕ). length (sheetOf L u) ≤ 28230) is short)
+
+-- so no answer is longer than the longest sheet
+pub bytes-short : (L : Layer) (t : List ℕ) → sidesFit (L .size) ≡ true → length (bytesAfter L (traceOf L t)) ≤ 28230
+unfolding bytesAfter
+bytes-short L t fits = both-sides (eqb (traceOf L t .refusal) 0)
+    (λ e.
+    let done = eqb-true (traceOf L t .refusal) 0 e in
+    let accepted = thinned-accepted L t done in
+    rw e (sheet-short L (accepted .sound) (thinned L (traceOf L t .table)) (small-of (L .size) fits) (accepted .entries)))
+    (λ e. rw e (lit≤ tt))
+
+pub slice-short : (input : List ℕ) → length (sliceOf input) ≤ 28230
+unfolding sliceOf
+slice-short input = both-sides (wholeCommand input)
+    (λ e. both-sides (sidesFit (layerIn input .size))
+    (λ f. rw (e, f) (bytes-short (layerIn input) (replicate (edgeCount (layerIn input .size)) 0) f))
+    (λ f. rw (e, f) (lit≤ tt)))
+    (λ e. rw e (lit≤ tt))
+
+-- and in an output of that length the answer's length is within it
+pub answer-within : (r : ℕ) (out out′ input : List ℕ) → outcome r out′ ≡ stored out (sliceOf input) → 28230 ≤ length out → r ≤ length out′
+answer-within r out out′ input e room =
+    let written : r ≡ length (sliceOf input) = ap (λ (o : Result). o .written) e in
+    let same : length out′ ≡ length out = ap (λ (o : Result). length (o .output)) e ∙ length-sets out 0 (sliceOf input) in
+    omega (arith, written, same, room, slice-short input)

@@ -1,0 +1,104 @@
+-- How long an answer is: the number of a refusal is a byte, and a layer with sides of at most 64 has at most 8,064 grid edges. So a sheet, with
+-- 6 + 6 × contours + 2 × vertices bytes, has at most 28,230 of them, since each contour has four vertices.
+use mathlib.Core.Path.{_≡_, ap}
+use mathlib.Core.Bool.{true}
+use mathlib.Core.List.{List, [], _∷_, map, flatten}
+use Prim.Native.Nat.{ℕ, _-_, _*_, _≤_, _<_}
+use native.Mathlib.Nat.{mul-le-mul}
+use native.Mathlib.Omega.{arith}
+use borrow.Author.Tests.{leb-true}
+use lib.Dec.{leb, lit≤}
+use lib.ListN.{length, length-append}
+use Rattle.arith.specs.Booleans.{asNumber, and-split}
+use Rattle.arith.specs.Ranges.{count-le}
+use Rattle.grid.specs.Layer.{Layer}
+use Rattle.grid.specs.Edges.{edgeCount, isStick, stickAt}
+use Rattle.grid.specs.Questions.{numberOf, Sized, Sound}
+use Rattle.grid.specs.declared.layer.Size.{Size}
+use Rattle.grid.specs.declared.edge.Edge.{Edge}
+use Rattle.grid.specs.declared.question.Refusal.{Refusal}
+use Rattle.grid.specs.declared.question.Refusal.the-variants as Refusal
+use Rattle.grid.specs.declared.question.Answer.the-variants.{Yes}
+use Rattle.contour.specs.Walk.{contour, occurrences}
+use Rattle.contour.specs.Contours.{walkOf, contourOf, firstSticks}
+use Rattle.contour.proofs.First.{first-one}
+use Rattle.contour.proofs.Sticks.{laws}
+use Rattle.contour.proofs.Theorems.{first-sticks-only, total-length}
+use Rattle.table.specs.Entries.{entriesAnswer}
+use Rattle.held.proofs.FourKept.{four-sticks}
+use Rattle.sheet.specs.Written.{sheetOf}
+use Rattle.sheet.proofs.BytesCounted.{sheet-length}
+use Rattle.slicing.specs.Slice.{sideFits, sidesFit}
+
+pub number-small : (q : Refusal) → numberOf q ≤ 15
+number-small Refusal.BadSides = lit≤ tt
+number-small Refusal.BitmapLength = lit≤ tt
+number-small Refusal.SpareBits = lit≤ tt
+number-small Refusal.BorderInside = lit≤ tt
+number-small Refusal.TableLength = lit≤ tt
+number-small Refusal.WrongEntry = lit≤ tt
+number-small Refusal.NotHeld = lit≤ tt
+number-small Refusal.Malformed = lit≤ tt
+number-small Refusal.NoKeptVertex = lit≤ tt
+number-small Refusal.BadOffset = lit≤ tt
+number-small Refusal.NoCrossing = lit≤ tt
+number-small Refusal.BeyondTolerance = lit≤ tt
+number-small Refusal.TooFewKept = lit≤ tt
+number-small Refusal.ShortOutput = lit≤ tt
+number-small Refusal.SomeRemoved = lit≤ tt
+
+-- what a yes to the question on the sides says
+side-of : (n : ℕ) → sideFits n ≡ true → (2 ≤ n) × (n ≤ 64)
+side-of n h =
+    let both = and-split (leb 2 n) (leb n 64) h in
+    (leb-true 2 n (both .0), leb-true n 64 (both .1))
+
+pub record Small (size : Size) : Type 0 where
+  pub sized : Sized size
+  pub narrow : size .width ≤ 64
+  pub low : size .height ≤ 64
+
+pub small-of : (size : Size) → sidesFit size ≡ true → Small size
+small-of size h =
+    let both = and-split (sideFits (size .width)) (sideFits (size .height)) h in
+    let w = side-of (size .width) (both .0) in
+    let k = side-of (size .height) (both .1) in
+    record {
+      sized = record { wide = w .0; narrow = omega (arith, w .1); high = k .0; low = omega (arith, k .1) };
+      narrow = w .1;
+      low = k .1;
+    }
+
+pub edges-few : (size : Size) → Small size → edgeCount size ≤ 8064
+unfolding edgeCount
+edges-few size small =
+    let narrow = small .narrow in
+    let low = small .low in
+    let p = mul-le-mul {n₁ = size .width - 1} {m₁ = size .height} {n₂ = 63} {m₂ = 64} (omega arith) low in
+    let q = mul-le-mul {n₁ = size .width} {m₁ = size .height - 1} {n₂ = 64} {m₂ = 63} narrow (omega arith) in
+    omega arith
+
+-- each contour has four sticks or more
+module _ (L : Layer) (sound : Sound L) where
+  contours-few : (l : List Edge) → ((y : Edge) → 0 < occurrences (walkOf L) y l → isStick L y ≡ true)
+      → 4 * length (map (contour (walkOf L)) l) ≤ length (flatten (map (contour (walkOf L)) l))
+  unfolding flatten occurrences
+  contours-few [] sticks = omega arith
+  contours-few (f ∷ l) sticks =
+      omega (
+        arith,
+        four-sticks L sound f (sticks f (omega (arith, ap asNumber (laws L sound .same-self f)))),
+        contours-few l (λ y o. sticks y (omega arith)),
+        length-append (contourOf L f) (flatten (map (contour (walkOf L)) l)),
+      )
+
+  pub sheet-short : (t : List ℕ) → Small (L .size) → entriesAnswer L t ≡ Yes → length (sheetOf L t) ≤ 28230
+  sheet-short t small suited =
+      omega (
+        arith,
+        sheet-length L sound t suited,
+        contours-few (firstSticks L) (λ y o. first-one (walkOf L) (laws L sound) y (first-sticks-only L sound y o)),
+        total-length L sound,
+        count-le (stickAt L) (edgeCount (L .size)),
+        edges-few (L .size) small,
+      )

@@ -1,0 +1,40 @@
+-- `refuse` meets its contract: the number of a refusal is a byte.
+use mathlib.Core.Path.{ap}
+use Prim.Native.Nat.{ℕ}
+use native.Mathlib.Omega.{arith}
+use borrow.Author.Needs.{needs}
+use Rattle.slicing.specs.Slice.{refusedBytes, stored}
+use Rattle.slicing.proofs.Bounds.{number-small}
+use Rattle.slicing.proofs.steps.refuse.Statement.{statement}
+use Rattle.slicing.proofs.steps.refuse.Tie as tie
+
+slice-write-output : tie.Need-slice-write-output
+slice-write-output c = search needs
+
+refusal-number-requires : tie.Need-refusal-number-requires
+refusal-number-requires c κs = search needs
+
+cast-output : tie.Need-cast-output
+cast-output c = omega (arith, number-small (c .before .before .args .question))
+
+slice-write-output-2 : tie.Need-slice-write-output-2
+slice-write-output-2 c = search needs
+
+same-length : tie.Need-same-length
+same-length c = search needs
+
+returns : tie.Need-returns
+returns c =
+    let a = c .before .before .args in
+    ap (λ (n : ℕ). stored (a .output .now) (refusedBytes n)) (c .refusal-number .ensures)
+
+pub refuse-spec : {M : Type 1} → statement M
+refuse-spec =
+    tie.close
+    (tie.spec
+    slice-write-output
+    refusal-number-requires
+    cast-output
+    slice-write-output-2
+    same-length
+    returns)

@@ -1,0 +1,2 @@
+-- What the promises of the layer view say.
+pub mod View
