@@ -30,6 +30,10 @@ declare! {
     pz_plan(table: *const u16, entries: usize, items: *mut u8, item_count: usize, points: *mut f64, float_count: usize);
 }
 
+extern "C" {
+    fn pz_sample(w: u16, h: u16, bitmap: *const u8, bytes: usize, column: u16, row: u16, figures: *mut u64, count: usize) -> u32;
+}
+
 /// What figures and outputs hold before a call, and how many elements stand guard on each side of a buffer.
 const FIGURE_BEFORE: u64 = 0xA5A5_A5A5_A5A5_A5A5;
 const BYTE_BEFORE: u8 = 0xAA;
@@ -159,6 +163,15 @@ impl State {
         self.line('L', format!("{} {} {}", words, bytes, digest(after.floats.slice().iter().flat_map(pieces))))
     }
 
+    /// The view is lent no table.
+    fn sample(&mut self, column: u16, row: u16) -> String {
+        let call = |state: &State, _: &mut Buffers, figures: &mut [u64]| unsafe {
+            let (bitmap, bytes) = (state.bitmap.as_ptr(), state.bitmap.len());
+            pz_sample(state.w, state.h, bitmap, bytes, column, row, figures.as_mut_ptr(), figures.len())
+        };
+        self.plain('V', 1, &call)
+    }
+
     /// Carries a command out, and answers the line of a call.
     fn turn(&mut self, command: &Command) -> String {
         match command {
@@ -196,6 +209,7 @@ impl State {
                 self.plain('D', 0, &call!(pz_read_sheet, sheet, |_: &mut Buffers| bytes.len()))
             }
             Command::Planner { items, floats } => self.plan(*items as usize, *floats as usize),
+            Command::View { column, row } => self.sample(*column, *row),
             other => panic!("the library has no call {}", other.letter() as char),
         }
     }

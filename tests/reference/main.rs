@@ -21,6 +21,7 @@ mod roll;
 mod script;
 mod sets;
 mod sets_bitmap;
+mod sets_lists;
 mod sets_table;
 mod sets_text;
 mod sheet;
@@ -35,10 +36,11 @@ use std::process::ExitCode;
 
 use script::Command;
 
-const USAGE: &str = "usage: reference make NAME.. | random NAME SEED | answer | show | test [SEED]
+const USAGE: &str = "usage: reference make NAME.. | random NAME SEED | answer | faithful | show | test [SEED]
   make    writes the script of the sets NAME.., one after the other
   random  writes the same set made from another seed
   answer  reads a script and writes the answers to its calls
+  faithful  runs the lists of calls of a script; silent if every table after an accepted opening is faithful
   show    reads a script and prints it for a person
   test    checks the reference itself; silent if all is right";
 
@@ -67,11 +69,32 @@ fn run(words: &[&str]) -> Result<Vec<u8>, Failure> {
         ["make", names @ ..] => sets::joined(names).ok_or(Failure::Usage),
         ["random", name, word] => sets::script(name, Some(seed(word)?)).ok_or(Failure::Usage),
         ["answer"] => Ok(machine::answers(&read_script()?).into_bytes()),
+        ["faithful"] => faithful(&read_script()?),
         ["show"] => Ok(show::show(&read_script()?).into_bytes()),
         ["test"] => tested(None),
         ["test", word] => tested(Some(seed(word)?)),
         _ => Err(Failure::Usage),
     }
+}
+
+/// Nothing if the layer is faithful after each call that follows an accepted Trace or sheet reading.
+fn faithful(commands: &[Command]) -> Result<Vec<u8>, Failure> {
+    let mut machine = machine::Machine::default();
+    let mut opened = false;
+    for (i, command) in commands.iter().enumerate() {
+        let opens = matches!(command, Command::Trace | Command::ReadSheet { .. });
+        opened = match machine.run(command) {
+            Some(answer) => opened || (opens && answer.number == 0),
+            None => false,
+        };
+        if opened && !test::stays_faithful(&machine) {
+            return Err(Failure::Message(format!(
+                "not faithful after command {}",
+                i
+            )));
+        }
+    }
+    Ok(Vec::new())
 }
 
 /// Nothing if all tests are right, else what is wrong; a call that breaks down has

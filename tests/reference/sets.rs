@@ -3,6 +3,7 @@
 
 use crate::builder::Builder;
 use crate::sets_bitmap;
+use crate::sets_lists;
 use crate::sets_table;
 use crate::sets_text;
 
@@ -12,7 +13,7 @@ pub struct Set {
     fill: fn(&mut Builder),
 }
 
-pub const SETS: [Set; 10] = [
+pub const SETS: [Set; 11] = [
     Set {
         name: "trace",
         seed: 101,
@@ -57,6 +58,11 @@ pub const SETS: [Set; 10] = [
         name: "planner",
         seed: 108,
         fill: sets_text::planner,
+    },
+    Set {
+        name: "lists",
+        seed: 111,
+        fill: sets_lists::lists,
     },
     Set {
         name: "layer",

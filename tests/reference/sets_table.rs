@@ -387,7 +387,7 @@ fn random_edit(b: &mut Builder, table: &[u16]) -> Vec<u8> {
 
 /// A roll of random edits that are all done; in about half of the rolls all but
 /// the last two.
-fn random_roll(b: &mut Builder, t: u8, tries: usize) -> Vec<u8> {
+pub fn random_roll(b: &mut Builder, t: u8, tries: usize) -> Vec<u8> {
     let mut table = b.machine.table.clone();
     let mut bytes = Vec::new();
     let may_fail = b.rng.below(2 * tries);

@@ -138,7 +138,7 @@ fn sheets_not_held(b: &mut Builder) {
 
 /// One damage to a sheet: a byte changed, put in or taken out, a part cut off,
 /// an offset of 0, K for R or R for K.
-fn damage(b: &mut Builder, sheet: &mut Vec<u8>) {
+pub fn damage(b: &mut Builder, sheet: &mut Vec<u8>) {
     let i = b.rng.below(sheet.len());
     let letters: Vec<usize> = (5..sheet.len())
         .filter(|&k| sheet[k] == 0x4B || sheet[k] == 0x52)

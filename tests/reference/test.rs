@@ -8,7 +8,7 @@ use crate::chord::{crosses, meets, vertex, Fraction, Point};
 use crate::contour::contours;
 use crate::flood;
 use crate::hold::{contour_is_held, is_kept, is_removed};
-use crate::layer::Layer;
+use crate::layer::{ask_1_to_4, Layer};
 use crate::machine::{answers, Machine};
 use crate::picture;
 use crate::planner::planner;
@@ -99,6 +99,14 @@ fn counting(wrong: &mut Wrong, rng: &mut Rng) {
         expect(wrong, wanted == found, || {
             format!("counts of {:?}: {:?}", layer, found)
         });
+    }
+}
+
+/// Whether the machine's table is faithful to its bitmap, which is good.
+pub fn stays_faithful(machine: &Machine) -> bool {
+    match ask_1_to_4(machine.w, machine.h, &machine.bitmap) {
+        Ok(layer) => faithful(&layer, &machine.table),
+        Err(_) => false,
     }
 }
 
@@ -415,6 +423,7 @@ fn is_main(name: &str, line: &str) -> bool {
         "roll" => "R",
         "sheet" => "WD",
         "planner" => "L",
+        "lists" => "TDSYR",
         _ => "G",
     };
     letters.contains(&line[..1])

@@ -12,25 +12,27 @@ pub short-face : {B : Type 0} (figures : List ℕ) (found : B) (result : Result 
 unfolding face
 short-face figures found result h = rw (lt-ltb (length figures) 4 h)
 
-pub stored-face : {B : Type 0} {after : B} {result : Result B} {figures′ : List ℕ} {n : ℕ} {r : Report} (figures : List ℕ) (found : B)
+pub stored-face : {B O : Type 0} {after : B} {left gives : O} {figures′ : List ℕ} {n : ℕ} {r : Report}
+    (result : O → Result B) (figures : List ℕ) (found : B)
     → 4 ≤ length figures
-    → record { report = r; buffers = after } ≡ result
+    → record { report = r; buffers = after } ≡ result left
+    → left ≡ gives
     → (n ≡ r .number) × (figures′ ≡ fourFigures r figures)
-    → record { number = n; buffers = after; figures = figures′ } ≡ face figures found result
+    → record { number = n; buffers = after; figures = figures′ } ≡ face figures found (result gives)
 unfolding face
-stored-face figures found h told put =
+stored-face result figures found h told same put =
     rw (le-ltb (length figures) 4 h)
     (λ i. record {
-      number = (put .0 ∙ (λ j. told j .report .number)) i;
-      buffers = told i .buffers;
-      figures = (put .1 ∙ (λ j. fourFigures (told j .report) figures)) i;
+      number = (put .0 ∙ ((λ j. told j .report .number) ∙ (λ j. result (same j) .report .number))) i;
+      buffers = ((λ j. told j .buffers) ∙ (λ j. result (same j) .buffers)) i;
+      figures = (put .1 ∙ ((λ j. fourFigures (told j .report) figures) ∙ (λ j. fourFigures (result (same j) .report) figures))) i;
     })
 
 -- an answer's report, from the case that the answer is
-pub told-by : {A B : Type 0} {answer case : A} {after : B} {r told : Report} (result : A → Result B)
+pub told-by : {A B : Type 0} {answer case : A} {r told : Report} (result : A → Result B) (after : B)
     → r ≡ told
     → answer ≡ case
     → record { report = told; buffers = after } ≡ result case
     → record { report = r; buffers = after } ≡ result answer
-told-by {after = after} result e same is =
+told-by result after e same is =
     (λ i. record { report = e i; buffers = after }) ∙ (is ∙ (λ i. result (sym same i)))

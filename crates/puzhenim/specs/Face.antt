@@ -19,6 +19,8 @@ use Rattle.roll.specs.Roll as Roll
 use Rattle.sheet.specs.Written as Write
 use Rattle.sheet.specs.Reading as Read
 use Rattle.planner.specs.Plan as Plan
+use Rattle.view.specs.View.{sampleOf}
+use Rattle.view.specs.declared.viewing.Sampled.{Sampled}
 use Rattle.puzhenim.specs.declared.report.Report.{Report}
 
 -- what a call came to: its report, and the buffers that it was lent, as it leaves them
@@ -126,3 +128,11 @@ pub record PlanPromised (L : Layer) (t : List ℕ) (out : Outputs) (figures : Li
   pub order : List Edge
   pub any : Plan.AnyOrder L order
   pub is : exit ≡ planFace L t order out figures
+
+-- One sample of a layer view: place, sample
+abbrev pub sampleResult : Sampled → Result (Unit {0})
+sampleResult s =
+    record { report = record { number = s .number; place = s .place; one = cond (s .inside) 1 0; two = 0; three = 0 }; buffers = tt }
+
+abbrev pub sampleFace : Layer → ℕ → ℕ → List ℕ → Face (Unit {0})
+sampleFace L column row figures = face figures tt (sampleResult (sampleOf L column row))

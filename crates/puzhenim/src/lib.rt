@@ -7,6 +7,7 @@ use report::planned_report;
 use report::put_report;
 use report::read_report;
 use report::rolled_report;
+use report::sampled_report;
 use report::simplified_report;
 use report::smoothed_report;
 use report::traced_report;
@@ -14,7 +15,7 @@ use report::written_report;
 ghost use mathlib.Core.Path.{_≡_};
 ghost use lib.ListN.{length};
 ghost use Rattle.grid.specs.Layer.{layerOf, sizeOf};
-ghost use Rattle.puzhenim.specs.Face.{traceFace, countsFace, smoothFace, simplifyFace, rollFace, writeFace, readFace, PlanPromised};
+ghost use Rattle.puzhenim.specs.Face.{traceFace, countsFace, smoothFace, simplifyFace, rollFace, writeFace, readFace, PlanPromised, sampleFace};
 
 // The number of question 14, for fewer figures than four.
 const SHORT_OUTPUT: u32 = 14;
@@ -161,4 +162,22 @@ pub extern "C" fn pz_plan(
     }
     let answer = planner::plan(w, h, bitmap, table, items, points);
     put_report(figures, planned_report(answer))
+}
+
+#[no_mangle]
+pub extern "C" fn pz_sample(
+    w: u16,
+    h: u16,
+    bitmap: &[u8],
+    column: u16,
+    row: u16,
+    figures: &mut [u64],
+) -> u32
+    ensures { λ r. ⌜ record { number = r; buffers = tt; figures = now (figures .exit) } ≡ sampleFace (layerOf (sizeOf w h) (now (bitmap .entry))) column row (now (figures .entry)) ⌝ }
+{
+    if figures.len() < 4 {
+        return SHORT_OUTPUT;
+    }
+    let sampled = view::sample_at(w, h, bitmap, column, row);
+    put_report(figures, sampled_report(sampled))
 }

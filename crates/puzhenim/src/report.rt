@@ -8,6 +8,7 @@ use simplify::Simplified;
 use smooth::Smoothing;
 use trace::Counted;
 use trace::Traced;
+use view::Sampled;
 ghost use mathlib.Core.Path.{_≡_};
 ghost use mathlib.Core.Bool.{cond};
 ghost use mathlib.Core.List.{List};
@@ -23,7 +24,7 @@ ghost use Rattle.roll.specs.Roll as Roll;
 ghost use Rattle.sheet.specs.Written as Write;
 ghost use Rattle.sheet.specs.Reading as Read;
 ghost use Rattle.planner.specs.Plan as Plan;
-ghost use Rattle.puzhenim.specs.Face.{fourFigures, Outputs, traceResult, countsResult, smoothResult, simplifyResult, rollResult, writeResult, readResult, planResult};
+ghost use Rattle.puzhenim.specs.Face.{fourFigures, Outputs, traceResult, countsResult, smoothResult, simplifyResult, rollResult, writeResult, readResult, planResult, sampleResult};
 
 pub struct Report {
     number: u32,
@@ -166,5 +167,17 @@ pub fn planned_report(answer: Planned) -> Report
     match answer {
         Planned::Done { items, floats } => done_report(items, floats, 0),
         Planned::Refused(q, place) => refused_report(q, place),
+    }
+}
+
+pub fn sampled_report(sampled: Sampled) -> Report
+    ensures { λ r. ⌜ record { report = r; buffers = tt } ≡ sampleResult sampled ⌝ }
+{
+    Report {
+        number: sampled.number,
+        place: sampled.place,
+        one: one_if(sampled.inside),
+        two: 0,
+        three: 0,
     }
 }

@@ -104,8 +104,10 @@ after-done L t t₁ t₂ traced thin fits =
     let done : traceOf L t .refusal ≡ 0 = sym (ap (λ (o : Outcome). o .refusal) traced) in
     let is : thinned L (traceOf L t .table) ≡ t₂ = sym (thin ∙ ap (λ (o : Outcome). thinned L (o .table)) traced) in
     let accepted = thinned-accepted L t done in
-    let short = sheet-short L (accepted .sound) (thinned L (traceOf L t .table)) (small-of (L .size) fits) (accepted .entries) in
-    (subst (λ (u : List ℕ). firstNo (heldQuestions L u) ≡ Yes) is (thinned-yes L t done), subst (λ (u : List ℕ). length (sheetOf L u) ≤ 28230) is short)
+    let short = sheet-short L (accepted .sound) (thinned L (traceOf L t .table)) (small-of (L .size) fits) (accepted .entries) in (
+      subst (λ (u : List ℕ). firstNo (heldQuestions L u) ≡ Yes) is (thinned-yes L t done),
+      subst (λ (u : List ℕ). length (sheetOf L u) ≤ 28230) is short,
+    )
 
 -- so no answer is longer than the longest sheet
 pub bytes-short : (L : Layer) (t : List ℕ) → sidesFit (L .size) ≡ true → length (bytesAfter L (traceOf L t)) ≤ 28230

@@ -19,7 +19,8 @@ use Rattle.slicing.specs.Slice.{sliceOf}
 -- "For input hex `4C 03 00 03 00 00 02 00` it writes `4C 03 00 03 00 43 00 00 00 01 00 4B FF 4B FF 4B 01 4B 01 45`: size, first stick, four kept
 -- offsets, end."
 pub single-sample : sliceOf (0x4C ∷ 0x03 ∷ 0x00 ∷ 0x03 ∷ 0x00 ∷ 0x00 ∷ 0x02 ∷ 0x00 ∷ [])
-    ≡ 0x4C ∷ 0x03 ∷ 0x00 ∷ 0x03 ∷ 0x00 ∷ 0x43 ∷ 0x00 ∷ 0x00 ∷ 0x00 ∷ 0x01 ∷ 0x00 ∷ 0x4B ∷ 0xFF ∷ 0x4B ∷ 0xFF ∷ 0x4B ∷ 0x01 ∷ 0x4B ∷ 0x01 ∷ 0x45 ∷ []
+    ≡ 0x4C ∷ 0x03 ∷ 0x00 ∷ 0x03 ∷ 0x00 ∷ 0x43 ∷ 0x00 ∷ 0x00 ∷ 0x00 ∷ 0x01 ∷ 0x00
+    ∷ 0x4B ∷ 0xFF ∷ 0x4B ∷ 0xFF ∷ 0x4B ∷ 0x01 ∷ 0x4B ∷ 0x01 ∷ 0x45 ∷ []
 unfolding sliceOf sidesAnswer lengthAnswer spareAnswer borderAnswer tableLengthAnswer entriesAnswer allKeptAnswer heldAnswer heldContour edgeCrosses
     firstsAmong ahead number edgeCount edgeAt isStick sample bit next prev xor tabulateFrom leastFrom count keptAt removedAt offsetAt removedFrom keptFrom entryOf
     crosses slidesWithin parted off

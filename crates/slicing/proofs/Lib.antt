@@ -2,4 +2,5 @@
 pub mod Bounds
 pub mod Answers
 pub mod Accepting
+pub mod Reading
 pub mod Example

@@ -48,12 +48,16 @@ unfolding thinned sheetOf
 bytesAfter L traced =
     cond (eqb (traced .refusal) 0) (sheetOf L (thinned L (traced .table))) (refusedBytes (traced .refusal))
 
--- the bytes of a layer, which is traced in a table of its length
+-- the bytes of a layer that is traced in the table t, and so in one of its length: Trace looks at the length of t alone
+abbrev pub bytesIn : Layer → List ℕ → List ℕ
+bytesIn L t = bytesAfter L (traceOf L t)
+
 unfoldable pub layerBytes : Layer → List ℕ
 unfolding bytesAfter traceOf
-layerBytes L = bytesAfter L (traceOf L (replicate (edgeCount (L .size)) 0))
+layerBytes L = bytesIn L (replicate (edgeCount (L .size)) 0)
 
--- "Its sides are at most 64, else 1; a wrong length gives 2, an input without a whole L command too." The length is asked by Trace.
+-- "Its sides are at most 64, else 1; a wrong length gives 2, an input without a whole L command too." The command is asked
+-- first, then the sides; the length is the first question that Trace may answer no after them.
 unfoldable pub sliceOf : List ℕ → List ℕ
 unfolding layerBytes
 sliceOf input =

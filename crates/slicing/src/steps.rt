@@ -6,15 +6,14 @@ use trace::Traced;
 ghost use mathlib.Core.Path.{_≡_};
 ghost use mathlib.Core.Bool.{true};
 ghost use Prim.Native.Nat.{_≤_};
-ghost use lib.ListN.{length, replicate};
+ghost use lib.ListN.{length};
 ghost use Rattle.grid.specs.Layer.{layerOf, sizeOf};
 ghost use Rattle.grid.specs.Edges.{edgeCount};
 ghost use Rattle.grid.specs.Questions.{numberOf, firstNo};
 ghost use Rattle.grid.specs.declared.question.Answer.the-variants.{Yes};
 ghost use Rattle.held.specs.Questions.{heldQuestions};
-ghost use Rattle.trace.specs.Trace.{traceOf};
 ghost use Rattle.sheet.specs.Written.{sheetOf};
-ghost use Rattle.slicing.specs.Slice.{sidesFit, refusedBytes, thinned, bytesAfter, layerBytes, stored, outcome};
+ghost use Rattle.slicing.specs.Slice.{sidesFit, refusedBytes, thinned, bytesIn, layerBytes, stored, outcome};
 
 // How many grid edges a layer of 64 by 64 samples has, the most that there can be.
 const TABLE_LIMIT: usize = 8064;
@@ -59,7 +58,7 @@ fn write(w: u16, h: u16, bitmap: &[u8], table: &[u16], output: &mut [u8]) -> usi
 fn slice_in(w: u16, h: u16, bitmap: &[u8], table: &mut [u16], output: &mut [u8]) -> usize
     requires { ⌜ sidesFit (sizeOf w h) ≡ true ⌝ }
     requires { ⌜ 28230 ≤ length (now output) ⌝ }
-    ensures { λ r. ⌜ outcome r (now (output .exit)) ≡ stored (now (output .entry)) (bytesAfter (layerOf (sizeOf w h) (now (bitmap .entry))) (traceOf (layerOf (sizeOf w h) (now (bitmap .entry))) (now (table .entry)))) ⌝ }
+    ensures { λ r. ⌜ outcome r (now (output .exit)) ≡ stored (now (output .entry)) (bytesIn (layerOf (sizeOf w h) (now (bitmap .entry))) (now (table .entry))) ⌝ }
 {
     let traced = trace::trace(w, h, bitmap, table);
     match traced {

@@ -1,5 +1,5 @@
 // The calls of the library that a script makes: T is Trace, N is Counts, H is questions 1 to 7, S is Smooth, Y is Simplify; W, D, R and L stand in files of their own.
-// A call is an arm of `call` and a function that reads its fields, makes it and gives its answer.
+// A call is an arm of `call` or `byte_call` and a function that reads its fields, makes it and gives its answer.
 use super::command::State;
 use super::command::read_to;
 use super::digest::digest_of;
@@ -73,6 +73,21 @@ fn call(
         b'H' => held_call(bitmap, table, state),
         b'S' => smooth_call(input, bitmap, table, state),
         b'Y' => simplify_call(input, bitmap, table, state),
+        _ => byte_call(letter, input, bitmap, table, text, points, state),
+    }
+}
+
+// The calls with a roll, a sheet or outputs.
+fn byte_call(
+    letter: u8,
+    input: &mut [u8],
+    bitmap: &[u8],
+    table: &mut [u16],
+    text: &mut [u8],
+    points: &mut [f64],
+    state: State,
+) -> Called {
+    match letter {
         b'W' => write_call(input, bitmap, table, text, state),
         b'D' => read_call(input, bitmap, table, text, state),
         b'R' => roll_call(input, bitmap, table, text, state),

@@ -1,5 +1,4 @@
 -- `pz_counts` meets its contract.
-use mathlib.Core.Path.{ap, _∙_}
 use borrow.Author.Needs.{needs}
 use Rattle.puzhenim.specs.Face.{countsResult}
 use Rattle.puzhenim.proofs.Faces.{short-face, stored-face}
@@ -26,8 +25,9 @@ returns-2 c =
     let stored = c .before .before in
     let told = stored .before in
     let called = told .before .before in
-    stored-face _ _ (called .before .if1 .left)
-    (told .counted-report .ensures ∙ ap countsResult (called .counts .ensures))
+    stored-face countsResult _ _ (called .before .if1 .left)
+    (told .counted-report .ensures)
+    (called .counts .ensures)
     (stored .put-report .ensures)
 
 pub pz-counts-spec : {M : Type 1} → statement M

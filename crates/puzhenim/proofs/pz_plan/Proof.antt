@@ -1,5 +1,5 @@
 -- `pz_plan` meets its contract. With too few figures any order will do: the ascending one is taken.
-use mathlib.Core.Path.{refl, ap, _∙_}
+use mathlib.Core.Path.{refl}
 use borrow.Author.Needs.{needs}
 use Rattle.grid.specs.Layer.{layerOf, sizeOf}
 use Rattle.contour.specs.Contours.{firstSticks}
@@ -45,8 +45,9 @@ returns-2 c =
       order = planned .order;
       any = planned .any;
       is =
-          stored-face _ _ (called .before .before .before .if1 .left)
-          (told .planned-report .ensures _ ∙ ap planResult (planned .is))
+          stored-face planResult _ _ (called .before .before .before .if1 .left)
+          (told .planned-report .ensures _)
+          (planned .is)
           (stored .put-report .ensures);
     }
 

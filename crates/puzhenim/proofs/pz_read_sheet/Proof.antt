@@ -1,5 +1,4 @@
 -- `pz_read_sheet` meets its contract.
-use mathlib.Core.Path.{ap, _∙_}
 use borrow.Author.Needs.{needs}
 use Rattle.puzhenim.specs.Face.{readResult}
 use Rattle.puzhenim.proofs.Faces.{short-face, stored-face}
@@ -29,8 +28,9 @@ returns-2 c =
     let stored = c .before .before in
     let told = stored .before in
     let called = told .before .before .before .before in
-    stored-face _ _ (called .before .before .if1 .left)
-    (told .read-report .ensures _ ∙ ap readResult (called .read-sheet .ensures))
+    stored-face readResult _ _ (called .before .before .if1 .left)
+    (told .read-report .ensures _)
+    (called .read-sheet .ensures)
     (stored .put-report .ensures)
 
 pub pz-read-sheet-spec : {M : Type 1} → statement M

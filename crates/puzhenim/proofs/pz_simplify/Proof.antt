@@ -1,5 +1,4 @@
 -- `pz_simplify` meets its contract.
-use mathlib.Core.Path.{ap, _∙_}
 use borrow.Author.Needs.{needs}
 use Rattle.puzhenim.specs.Face.{simplifyResult}
 use Rattle.puzhenim.proofs.Faces.{short-face, stored-face}
@@ -29,8 +28,9 @@ returns-2 c =
     let stored = c .before .before in
     let told = stored .before in
     let called = told .before .before .before .before in
-    stored-face _ _ (called .before .before .if1 .left)
-    (told .simplified-report .ensures _ ∙ ap simplifyResult (called .simplify .ensures))
+    stored-face simplifyResult _ _ (called .before .before .if1 .left)
+    (told .simplified-report .ensures _)
+    (called .simplify .ensures)
     (stored .put-report .ensures)
 
 pub pz-simplify-spec : {M : Type 1} → statement M

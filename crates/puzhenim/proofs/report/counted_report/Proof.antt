@@ -21,11 +21,11 @@ refused-report-requires c κs = search needs
 
 returns : tie.Need-returns
 returns c =
-    told-by (λ x. countsResult (figuresOf x)) (c .done-report .ensures) (c .before .before .answer .given .1) refl
+    told-by (λ x. countsResult (figuresOf x)) tt (c .done-report .ensures) (c .before .before .answer .given .1) refl
 
 returns-2 : tie.Need-returns-2
 returns-2 c =
-    told-by (λ x. countsResult (figuresOf x)) (c .refused-report .ensures) (c .before .before .answer2 .given .1) refl
+    told-by (λ x. countsResult (figuresOf x)) tt (c .refused-report .ensures) (c .before .before .answer2 .given .1) refl
 
 pub counted-report-spec : {M : Type 1} → statement M
 counted-report-spec =

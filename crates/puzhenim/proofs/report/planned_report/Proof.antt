@@ -21,11 +21,13 @@ refused-report-requires c κs = search needs
 
 returns : tie.Need-returns
 returns c = λ out.
-    told-by (λ x. planResult (outcome x (out .items) (out .points))) (c .done-report .ensures) (c .before .before .answer .given .1) refl
+    told-by (λ x. planResult (outcome x (out .items) (out .points))) out
+    (c .done-report .ensures) (c .before .before .answer .given .1) refl
 
 returns-2 : tie.Need-returns-2
 returns-2 c = λ out.
-    told-by (λ x. planResult (outcome x (out .items) (out .points))) (c .refused-report .ensures) (c .before .before .answer2 .given .1) refl
+    told-by (λ x. planResult (outcome x (out .items) (out .points))) out
+    (c .refused-report .ensures) (c .before .before .answer2 .given .1) refl
 
 pub planned-report-spec : {M : Type 1} → statement M
 planned-report-spec =

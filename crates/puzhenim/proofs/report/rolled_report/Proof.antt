@@ -21,12 +21,12 @@ refusal-number-requires c κs = search needs
 
 returns : tie.Need-returns
 returns c = λ t.
-    told-by (λ x. rollResult (outcome x t)) (c .done-report .ensures) (c .before .before .answer .given .1) refl
+    told-by (λ x. rollResult (outcome x t)) t (c .done-report .ensures) (c .before .before .answer .given .1) refl
 
 returns-2 : tie.Need-returns-2
 returns-2 c = λ t.
     let answer = c .before .before .answer2 .given in
-    told-by (λ x. rollResult (outcome x t))
+    told-by (λ x. rollResult (outcome x t)) t
     (λ i. record { number = c .refusal-number .ensures i; place = answer .0 .1 .0; one = answer .0 .1 .1 .0; two = 0; three = 0 })
     (answer .1)
     refl

@@ -25,7 +25,7 @@ refused-report-requires c κs = search needs
 returns : tie.Need-returns
 returns c = λ t.
     let answer = c .before .before .before .answer .given in
-    told-by (λ x. smoothResult (outcome x t))
+    told-by (λ x. smoothResult (outcome x t)) t
     (c .done-report .ensures
     ∙ (λ i. record { number = 0; place = 0; one = answer .0 .0; two = answer .0 .1 .0; three = c .before .one-if .ensures i }))
     (answer .1)
@@ -33,7 +33,7 @@ returns c = λ t.
 
 returns-2 : tie.Need-returns-2
 returns-2 c = λ t.
-    told-by (λ x. smoothResult (outcome x t)) (c .refused-report .ensures) (c .before .before .answer2 .given .1) refl
+    told-by (λ x. smoothResult (outcome x t)) t (c .refused-report .ensures) (c .before .before .answer2 .given .1) refl
 
 pub smoothed-report-spec : {M : Type 1} → statement M
 smoothed-report-spec =

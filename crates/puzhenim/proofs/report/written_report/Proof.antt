@@ -21,11 +21,11 @@ refused-report-requires c κs = search needs
 
 returns : tie.Need-returns
 returns c = λ t.
-    told-by (λ x. writeResult (outcome x t)) (c .done-report .ensures) (c .before .before .answer .given .1) refl
+    told-by (λ x. writeResult (outcome x t)) t (c .done-report .ensures) (c .before .before .answer .given .1) refl
 
 returns-2 : tie.Need-returns-2
 returns-2 c = λ t.
-    told-by (λ x. writeResult (outcome x t)) (c .refused-report .ensures) (c .before .before .answer2 .given .1) refl
+    told-by (λ x. writeResult (outcome x t)) t (c .refused-report .ensures) (c .before .before .answer2 .given .1) refl
 
 pub written-report-spec : {M : Type 1} → statement M
 written-report-spec =

@@ -19,7 +19,8 @@ returns c =
     let simplify = c .before .before .simplify in
     let smooth = c .before .before .before .before .before .before .smooth in
     let a = c .before .before .before .before .before .before .before .before .before .before .args in
-    thinned-is (layerOf (sizeOf (a .w) (a .h)) (a .bitmap .now)) (a .table .now) _ _ (smooth .result) (simplify .result) (smooth .ensures) (simplify .ensures)
+    thinned-is (layerOf (sizeOf (a .w) (a .h)) (a .bitmap .now)) (a .table .now) _ _
+    (smooth .result) (simplify .result) (smooth .ensures) (simplify .ensures)
 
 pub thin-spec : {M : Type 1} → statement M
 thin-spec = tie.close (tie.spec smooth-requires simplify-requires same-length returns)

@@ -23,8 +23,8 @@ returns c =
     let a = start .args in
     let sheet = c .before .before .before .before .before .write-sheet in
     let told = c .before .written .given in
-    written-is (layerOf (sizeOf (a .w) (a .h)) (a .bitmap .now)) (a .table .now) (a .output .now) _ (sheet .result) (start .pre .0) (start .pre .1) (sheet .ensures)
-    (told .0 .0) (told .1)
+    written-is (layerOf (sizeOf (a .w) (a .h)) (a .bitmap .now)) (a .table .now) (a .output .now) _
+    (sheet .result) (start .pre .0) (start .pre .1) (sheet .ensures) (told .0 .0) (told .1)
 
 same-length-2 : tie.Need-same-length-2
 same-length-2 c = search needs
@@ -35,8 +35,8 @@ returns-2 c =
     let a = start .args in
     let sheet = c .before .before .before .before .write-sheet in
     let told = c .enum-told .given in
-    absurd (written-never (layerOf (sizeOf (a .w) (a .h)) (a .bitmap .now)) (a .table .now) (a .output .now) _ (sheet .result) (start .pre .0) (start .pre .1)
-    (sheet .ensures) (told .0 .0) (told .0 .1 .0) (told .1))
+    absurd (written-never (layerOf (sizeOf (a .w) (a .h)) (a .bitmap .now)) (a .table .now) (a .output .now) _
+    (sheet .result) (start .pre .0) (start .pre .1) (sheet .ensures) (told .0 .0) (told .0 .1 .0) (told .1))
 
 pub write-spec : {M : Type 1} → statement M
 write-spec =

@@ -1,0 +1,38 @@
+/* The exported library from C: the paper's single sample, from the bitmap to its sheet, and a refusal. Silent if all is right. */
+#include "../../include/puzhenim.h"
+#include <stdio.h>
+#include <string.h>
+
+#define LAYER 3, 3, bitmap, sizeof bitmap
+#define TABLE table, 12
+#define FIGURES figures, 4
+
+static int expect(int right, const char *what) {
+    if (!right) fprintf(stderr, "cases.c: %s\n", what);
+    return right;
+}
+
+int main(void) {
+    const uint8_t bitmap[3] = {0, 2, 0}, spare[3] = {0, 10, 0};
+    const uint8_t expected[20] = {0x4C, 3, 0, 3, 0, 0x43, 0, 0, 0, 1, 0, 0x4B, 255, 0x4B, 255, 0x4B, 1, 0x4B, 1, 0x45};
+    uint16_t table[12] = {7}, read[12] = {9};
+    uint8_t sheet[21], items[8];
+    double points[8];
+    uint64_t figures[4];
+    int good = 1;
+    memset(sheet, 0xAA, sizeof sheet);
+    good &= expect(pz_counts(LAYER, TABLE, FIGURES) == 0 && figures[1] == 1 && figures[2] == 4 && figures[3] == 1, "counts");
+    good &= expect(pz_trace(LAYER, TABLE, FIGURES) == 0 && table[2] == 128 && table[0] == 0, "trace");
+    good &= expect(pz_smooth(LAYER, TABLE, 100, FIGURES) == 0 && figures[1] == 10 && figures[2] == 0 && figures[3] == 1, "smooth");
+    good &= expect(pz_simplify(LAYER, TABLE, 64, FIGURES) == 0 && figures[1] == 0 && figures[2] == 6, "simplify");
+    good &= expect(pz_write_sheet(LAYER, TABLE, sheet, 21, FIGURES) == 0 && figures[1] == 20, "write");
+    good &= expect(memcmp(sheet, expected, 20) == 0 && sheet[20] == 0xAA, "the sheet");
+    good &= expect(pz_read_sheet(LAYER, read, 12, sheet, 20, FIGURES) == 0 && memcmp(read, table, sizeof table) == 0, "read");
+    good &= expect(pz_read_sheet(LAYER, read, 12, sheet, 21, FIGURES) == 8 && figures[0] == 20, "a byte too many");
+    good &= expect(pz_roll(LAYER, TABLE, (const uint8_t *)"E", 1, 0, FIGURES) == 0 && figures[1] == 0, "an empty roll");
+    good &= expect(pz_plan(LAYER, TABLE, items, 8, points, 8, FIGURES) == 0 && memcmp(items, "MlllZ", 5) == 0, "the list");
+    good &= expect(points[0] == 255 / 256.0 && points[1] == 1.0, "its first point");
+    good &= expect(pz_sample(LAYER, 1, 1, FIGURES) == 0 && figures[1] == 1, "a sample");
+    good &= expect(pz_trace(3, 3, spare, sizeof spare, TABLE, FIGURES) == 3 && figures[0] == 1, "spare bits");
+    return !good;
+}

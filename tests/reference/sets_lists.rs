@@ -1,0 +1,61 @@
+// Lists of the calls that write a table, as the guarantee speaks of them: each opens on a Trace or a sheet, and goes on with any calls, good
+// ones, refused ones and rolls that stop partway.
+
+use crate::builder::Builder;
+use crate::layer::Layer;
+use crate::script::Command;
+use crate::sets_table::random_roll;
+use crate::sets_text::damage;
+
+const TOLERANCES: [u8; 5] = [0, 12, 64, 128, 255];
+
+/// The sheet of the layer as it is, damaged now and then.
+fn read_back(b: &mut Builder) {
+    let mut bytes = b.sheet();
+    if b.rng.chance(1, 2) {
+        damage(b, &mut bytes);
+    }
+    b.add(Command::ReadSheet { bytes });
+}
+
+fn any_call(b: &mut Builder) {
+    let t = b.rng.pick(&TOLERANCES);
+    match b.rng.below(8) {
+        0 => {
+            b.add(Command::Trace);
+        }
+        1 => read_back(b),
+        2 => {
+            let limit = b.rng.pick(&[0, 1, 3, 100]);
+            b.add(Command::Smooth { limit });
+        }
+        3 | 4 => {
+            b.add(Command::Simplify { t });
+        }
+        _ => {
+            let tries = b.rng.between(1, 12);
+            let bytes = random_roll(b, t, tries);
+            b.add(Command::Roll { t, bytes });
+        }
+    }
+}
+
+/// Opens a list: a Trace, or the sheet of a traced layer read into a table of anything.
+fn open(b: &mut Builder, layer: &Layer) {
+    b.traced(layer);
+    if b.rng.chance(1, 2) {
+        let bytes = b.sheet();
+        b.layer(layer);
+        b.add(Command::ReadSheet { bytes });
+    }
+}
+
+pub fn lists(b: &mut Builder) {
+    for _ in 0..40 {
+        let layer = b.some_layer(12);
+        open(b, &layer);
+        for _ in 0..b.rng.below(14) {
+            any_call(b);
+        }
+    }
+}
