@@ -13,7 +13,7 @@ pub struct Set {
     fill: fn(&mut Builder),
 }
 
-pub const SETS: [Set; 11] = [
+pub const SETS: [Set; 12] = [
     Set {
         name: "trace",
         seed: 101,
@@ -63,6 +63,11 @@ pub const SETS: [Set; 11] = [
         name: "lists",
         seed: 111,
         fill: sets_lists::lists,
+    },
+    Set {
+        name: "large",
+        seed: 112,
+        fill: sets_lists::large,
     },
     Set {
         name: "layer",

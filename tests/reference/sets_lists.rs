@@ -1,8 +1,9 @@
-// Lists of the calls that write a table, as the guarantee speaks of them: each opens on a Trace or a sheet, and goes on with any calls, good
-// ones, refused ones and rolls that stop partway.
+// Lists of calls. The calls that write a table, as the guarantee speaks of them: each list opens on a Trace or a sheet, and goes on with any
+// calls, good ones, refused ones and rolls that stop partway. And every call one after the other on larger layers, up to the largest.
 
 use crate::builder::Builder;
 use crate::layer::Layer;
+use crate::picture;
 use crate::script::Command;
 use crate::sets_table::random_roll;
 use crate::sets_text::damage;
@@ -58,4 +59,50 @@ pub fn lists(b: &mut Builder) {
             any_call(b);
         }
     }
+}
+
+/// Every call on the layer, each on what the one before it left.
+fn every_call(b: &mut Builder, layer: &Layer) {
+    b.traced(layer);
+    b.add(Command::Counts);
+    b.add(Command::Smooth { limit: 5 });
+    let t = b.rng.pick(&TOLERANCES);
+    b.add(Command::Simplify { t });
+    for _ in 0..20 {
+        any_edit(b);
+    }
+    let bytes = b.sheet();
+    b.add(Command::WriteSheet {
+        n: bytes.len() as u32 + 3,
+    });
+    let items = 2 * bytes.len() as u32;
+    b.add(Command::Planner {
+        items,
+        floats: items,
+    });
+    b.layer(layer);
+    b.add(Command::ReadSheet { bytes });
+}
+
+/// A roll of one edit of a stick.
+fn any_edit(b: &mut Builder) {
+    let sticks = b.sticks();
+    let stick = b.rng.pick(&sticks);
+    let slide = b.rng.chance(1, 2);
+    let offset = b.rng.between(1, 255) as u8;
+    let mut bytes = b.edit(stick, if slide { Some(offset) } else { None });
+    bytes.push(0x45);
+    let t = b.rng.pick(&TOLERANCES);
+    b.add(Command::Roll { t, bytes });
+}
+
+pub fn large(b: &mut Builder) {
+    for _ in 0..8 {
+        let noise = picture::random(&mut b.rng, 64, 64, 8);
+        every_call(b, &noise);
+        let discs = picture::discs(&mut b.rng, 64, 64, 5);
+        every_call(b, &discs);
+    }
+    let largest = picture::discs(&mut b.rng, 1024, 1024, 6);
+    every_call(b, &largest);
 }

@@ -423,7 +423,7 @@ fn is_main(name: &str, line: &str) -> bool {
         "roll" => "R",
         "sheet" => "WD",
         "planner" => "L",
-        "lists" => "TDSYR",
+        "lists" | "large" => "TDSYR",
         _ => "G",
     };
     letters.contains(&line[..1])
