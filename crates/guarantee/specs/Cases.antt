@@ -9,6 +9,7 @@ use Rattle.grid.specs.Layer.{Layer, layerOf, sizeOf}
 use Rattle.grid.specs.Edges.{number, edgeCount}
 use Rattle.grid.specs.declared.edge.Edge.{Edge}
 use Rattle.contour.specs.Contours.{contoursOf}
+use Rattle.trace.specs.Trace.{traceOf}
 use Rattle.smooth.specs.Call.{smoothOf}
 use Rattle.simplify.specs.Call.{simplifyOf}
 use Rattle.roll.specs.Roll.{rollOf}
@@ -59,11 +60,16 @@ pub record Cases : Type 0 where
   -- "W 3, H 3, inside (1,1): entries 2, 7, 3, 10 in contour order, 12 entries in all."
   pub single-contour : numbers single ≡ (2 ∷ 7 ∷ 3 ∷ 10 ∷ []) ∷ []
   pub single-entries : edgeCount (single .size) ≡ 12
+  -- as traced, this layer and the bar below have these tables, whatever the lent one held
+  pub single-traced : traceOf single (offsets 7 7 7 7) ≡ record { refusal = 0; place = 0; table = traced }
+  pub bar-traced : traceOf bar (barTable 7 7) ≡ record { refusal = 0; place = 0; table = barTable 128 128 }
   -- "One pass on it: 179, 179, 77, 77, total 204."
   pub one-pass : smoothOf single 1 traced
       ≡ record { refusal = 0; place = 0; passes = 1; total = 204; settled = false; table = offsets 179 179 77 77 }
   -- "Its tenth pass ends at 255, 255, 1, 1, total 0, settled. Limit 9: total 4, not settled."
   pub tenth-pass : smoothOf single 10 traced
+      ≡ record { refusal = 0; place = 0; passes = 10; total = 0; settled = true; table = offsets 255 255 1 1 }
+  pub no-further-pass : smoothOf single 100 traced
       ≡ record { refusal = 0; place = 0; passes = 10; total = 0; settled = true; table = offsets 255 255 1 1 }
   pub limit-9 : smoothOf single 9 traced
       ≡ record { refusal = 0; place = 0; passes = 9; total = 4; settled = false; table = offsets 255 255 1 1 }
