@@ -3,6 +3,7 @@ pub mod Samples
 pub mod Borders
 pub mod Numbers
 pub mod Links
+pub mod Turns
 pub mod Walks
 pub mod Answers
 pub mod Masks

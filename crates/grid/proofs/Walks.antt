@@ -13,18 +13,24 @@ use Rattle.grid.specs.Edges.{isStick, inGrid, firstEnd, secondEnd}
 use Rattle.grid.specs.Cells.{corners, cut, partner, link, edgeOf}
 use Rattle.grid.specs.Walk.{upward, beside, ahead, behind, next, prev}
 use Rattle.grid.specs.Questions.{Sound, onBorder}
+use Rattle.grid.specs.Turns.{left, Entered, leaving}
 use Rattle.grid.specs.declared.edge.Edge.{Edge}
 use Rattle.grid.specs.declared.cell.CellSide.{CellSide}
 use Rattle.grid.specs.declared.cell.Side.{Side}
 use Rattle.grid.specs.declared.cell.Side.the-variants.{South, East, North, West}
 use Rattle.grid.proofs.Borders.{west, east, bottom, top}
 use Rattle.grid.proofs.Numbers.{Within, within, in-grid}
-use Rattle.grid.proofs.Links.{sameSide, left, partner-partner, partner-cut, partner-other, partner-turns}
+use Rattle.grid.proofs.Links.{sameSide, partner-partner, partner-cut, partner-other, cut-right, partner-turns}
 
 -- a cell whose four samples are in the grid
 pub record InGrid (L : Layer) (p : CellSide) : Type 0 where
   pub column-inner : p .column + 1 < L .size .width
   pub row-inner : p .row + 1 < L .size .height
+
+-- the contour crosses stick e into this cell, by this side, and leaves the cell at the next stick
+pub record Crosses (L : Layer) (e : Edge) (p : CellSide) : Type 0 where
+  pub enters : Entered L (p .column) (p .row) (p .side)
+  pub leaves : leaving L (p .column) (p .row) (p .side) ≡ next L e
 
 -- the cell lies on the upper side of its south and its west side
 abbrev pub isUpper : Side → Bool
@@ -193,6 +199,23 @@ module _ (L : Layer) (sound : Sound L) where
         sym (stick-cut here here-in)
         ∙ ap (isStick L) (edgeOf-beside (e .vertical) (e .column) (e .row) stick upper)
         ∙ stick
+
+    -- where the contour crosses the stick into this cell, it has inside on its left
+    pub crosses : upward L e ≡ upper → (p : CellSide) → here ≡ p → Crosses L e p
+    unfolding next
+    crosses u p h =
+        let inside = left-is (e .vertical) (e .column) (e .row) stick upper ∙ ap (λ (b : Bool). Bool·beq b upper) u ∙ beq-self upper in
+        subst (Crosses L e) h
+        (record {
+          enters = record {
+            whole = sound .whole;
+            column-inner = here-in .column-inner;
+            row-inner = here-in .row-inner;
+            left-inside = inside;
+            right-outside = cut-right (corners L (here .column) (here .row)) (here .side) here-cut ∙ ap not inside;
+          };
+          leaves = ap (λ (b : Bool). edgeOf (link L (beside e b))) (sym u);
+        })
 
     pub there-stick : isStick L (edgeOf there) ≡ true
     there-stick =

@@ -120,5 +120,8 @@ links =
     0b11_10_01_00 ∷
     []
 
+abbrev pub linkedIn : ℕ → Side → Side
+linkedIn n s = sideAt (getD links n 0 / 2 ^ (2 * sideIndex s) % 4)
+
 abbrev pub linkedTo : Corners → Side → Side
-linkedTo k s = sideAt (getD links (index k) 0 / 2 ^ (2 * sideIndex s) % 4)
+linkedTo k s = linkedIn (index k) s

@@ -5,3 +5,4 @@ pub mod Cells
 pub mod Walk
 pub mod Counts
 pub mod Questions
+pub mod Turns

@@ -6,7 +6,7 @@ ghost use mathlib.Core.Path.{_≡_};
 ghost use Prim.Native.Nat.{_+_, _≤_, _<_};
 ghost use Rattle.arith.specs.Booleans.{asNumber};
 ghost use Rattle.grid.specs.Layer.{layerOf};
-ghost use Rattle.grid.specs.Cells.{corners, index, sideIndex, sideAt, link, edgeOf};
+ghost use Rattle.grid.specs.Cells.{corners, index, sideIndex, sideAt, linkedIn, link, edgeOf};
 ghost use Rattle.grid.specs.Questions.{Whole};
 
 pub enum Side {
@@ -86,6 +86,14 @@ fn side_at(n: u8) -> Side
     }
 }
 
+// The side that the table links to this one in a pattern.
+pub fn linked_in(pattern: usize, side: Side) -> Side
+    requires { ⌜ pattern < 16 ⌝ }
+    ensures { λ r. ⌜ r ≡ linkedIn pattern side ⌝ }
+{
+    side_at((LINKS[pattern] >> (2 * side_index(side))) % 4)
+}
+
 // The side of the same cell that is linked to this one.
 pub fn linked(size: Size, bitmap: &[u8], p: CellSide) -> CellSide
     requires { ⌜ Whole (layerOf size (now bitmap)) ⌝ }
@@ -94,11 +102,10 @@ pub fn linked(size: Size, bitmap: &[u8], p: CellSide) -> CellSide
     ensures { λ r. ⌜ r ≡ link (layerOf size (now (bitmap .entry))) p ⌝ }
 {
     let side = p.side;
-    let links = LINKS[pattern(size, bitmap, p.column, p.row)];
     CellSide {
         column: p.column,
         row: p.row,
-        side: side_at((links >> (2 * side_index(side))) % 4),
+        side: linked_in(pattern(size, bitmap, p.column, p.row), side),
     }
 }
 

@@ -5,6 +5,7 @@ mod edge;
 mod layer;
 mod mask;
 mod question;
+mod turn;
 mod walk;
 
 pub use count::inside_count;
@@ -26,6 +27,5 @@ pub use question::Answer;
 pub use question::Refusal;
 pub use question::ask_layer;
 pub use question::refusal_number;
-pub use walk::is_upward;
 pub use walk::next_stick;
 pub use walk::previous_stick;

@@ -6,12 +6,15 @@ use super::cell::linked;
 use super::edge::Edge;
 use super::layer::Size;
 use super::layer::is_inside;
+use super::turn::from_east;
+use super::turn::from_north;
+use super::turn::from_south;
+use super::turn::from_west;
 ghost use mathlib.Core.Path.{_≡_};
 ghost use mathlib.Core.Bool.{true, false, cond};
 ghost use Prim.Native.Nat.{_≤_};
 ghost use Rattle.grid.specs.Layer.{layerOf};
 ghost use Rattle.grid.specs.Edges.{isStick};
-ghost use Rattle.grid.specs.Cells.{link, edgeOf};
 ghost use Rattle.grid.specs.Walk.{upward, beside, next, prev};
 ghost use Rattle.grid.specs.Questions.{Sound};
 
@@ -63,31 +66,36 @@ fn cell_beside(e: Edge, upper: bool) -> CellSide
     }
 }
 
-// The stick that is linked to this one across the cell on its upper or lower side.
-fn across(size: Size, bitmap: &[u8], e: Edge, upper: bool) -> Edge
-    requires { ⌜ Sound (layerOf size (now bitmap)) ⌝ }
-    requires { ⌜ isStick (layerOf size (now bitmap)) e ≡ true ⌝ }
-    ensures { λ r. ⌜ r ≡ edgeOf (link (layerOf size (now (bitmap .entry))) (beside e upper)) ⌝ }
-{
-    edge_of(linked(size, bitmap, cell_beside(e, upper)))
-}
-
-// The successor of a stick on its contour.
+// The successor of a stick on its contour: where the contour leaves the cell ahead.
 pub fn next_stick(size: Size, bitmap: &[u8], e: Edge) -> Edge
     requires { ⌜ Sound (layerOf size (now bitmap)) ⌝ }
     requires { ⌜ isStick (layerOf size (now bitmap)) e ≡ true ⌝ }
     ensures { λ r. ⌜ r ≡ next (layerOf size (now (bitmap .entry))) e ⌝ }
 {
     let upper = is_upward(size, bitmap, e);
-    across(size, bitmap, e, upper)
+    let column = e.column;
+    let row = e.row;
+    if e.vertical {
+        if upper {
+            from_west(size, bitmap, column, row)
+        } else {
+            from_east(size, bitmap, column - 1, row)
+        }
+    } else {
+        if upper {
+            from_south(size, bitmap, column, row)
+        } else {
+            from_north(size, bitmap, column, row - 1)
+        }
+    }
 }
 
-// The predecessor of a stick on its contour.
+// The predecessor of a stick on its contour: the link across the cell behind.
 pub fn previous_stick(size: Size, bitmap: &[u8], e: Edge) -> Edge
     requires { ⌜ Sound (layerOf size (now bitmap)) ⌝ }
     requires { ⌜ isStick (layerOf size (now bitmap)) e ≡ true ⌝ }
     ensures { λ r. ⌜ r ≡ prev (layerOf size (now (bitmap .entry))) e ⌝ }
 {
     let upper = is_upward(size, bitmap, e);
-    across(size, bitmap, e, !upper)
+    edge_of(linked(size, bitmap, cell_beside(e, !upper)))
 }

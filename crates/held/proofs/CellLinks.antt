@@ -11,11 +11,12 @@ use Rattle.grid.specs.Edges.{isStick}
 use Rattle.grid.specs.Questions.{Sound}
 use Rattle.grid.specs.Cells.{Corners, corners, cut, partner, link, edgeOn, edgeOf, sideIndex}
 use Rattle.grid.specs.Walk.{upward, ahead, next}
+use Rattle.grid.specs.Turns.{left}
 use Rattle.grid.specs.declared.edge.Edge.{Edge}
 use Rattle.grid.specs.declared.cell.CellSide.{CellSide}
 use Rattle.grid.specs.declared.cell.Side.{Side}
 use Rattle.grid.specs.declared.cell.Side.the-variants.{South, East, North, West}
-use Rattle.grid.proofs.Links.{at, sameSide, same-side, left}
+use Rattle.grid.proofs.Links.{at, sameSide, same-side}
 use Rattle.grid.proofs.Walks.{edgeOf-beside, left-is, stick-cut, cell-beside, next-other, behind-next}
 use Rattle.chord.proofs.Homogeneous.{Homogeneous}
 use Rattle.chord.proofs.EdgePoints.{Within}
