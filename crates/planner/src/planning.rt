@@ -2,7 +2,6 @@
 use super::item::Reached;
 use super::walk::write_contour;
 use contour::contour_count;
-use contour::first_sticks;
 use contour::next_first;
 use grid::Answer;
 use grid::Refusal;
@@ -77,22 +76,22 @@ fn plan_accepted(
     size: Size,
     bitmap: &[u8],
     table: &[u16],
+    set: &[u64; 16368],
     items: &mut [u8],
     points: &mut [f64],
 ) -> Planned
     requires { ⌜ Accepted (layerOf size (now bitmap)) (now table) ⌝ }
+    requires { ⌜ FirstSet (layerOf size (now bitmap)) (now set) ⌝ }
     ensures { λ r. ⌜ outcome r (now (items .exit)) (now (points .exit)) ≡ acceptedOf (layerOf size (now (bitmap .entry))) (now (table .entry)) (now (items .entry)) (now (points .entry)) ⌝ }
 {
-    let mut set: [u64; 16368] = [0; 16368];
-    first_sticks(size, bitmap, &mut set);
     let kept = count_kept(table);
-    if items.len() < kept + contour_count(&set) {
+    if items.len() < kept + contour_count(set) {
         return Planned::Refused(Refusal::ShortOutput, 0);
     }
     if points.len() < 2 * kept {
         return Planned::Refused(Refusal::ShortOutput, 0);
     }
-    let at = write_contours(size, bitmap, table, &set, items, points);
+    let at = write_contours(size, bitmap, table, set, items, points);
     Planned::Done {
         items: at.items,
         floats: at.floats,
@@ -114,9 +113,10 @@ pub fn plan(
         width: w as usize,
         height: h as usize,
     };
-    let answer = held::ask_layer_held(size, bitmap, table);
+    let mut set: [u64; 16368] = [0; 16368];
+    let answer = held::ask_held_firsts(size, bitmap, table, &mut set);
     match answer {
-        Answer::Yes => plan_accepted(size, bitmap, table, items, points),
+        Answer::Yes => plan_accepted(size, bitmap, table, &set, items, points),
         Answer::No(q, place) => Planned::Refused(q, place),
     }
 }

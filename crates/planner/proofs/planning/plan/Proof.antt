@@ -3,24 +3,27 @@ use mathlib.Core.Path.{sym, _∙_}
 use borrow.Author.Needs.{needs}
 use Rattle.grid.specs.Layer.{layerOf, sizeOf}
 use Rattle.contour.specs.Contours.{firstSticks}
+use Rattle.contour.proofs.Sets.{empty-set}
 use Rattle.held.proofs.Asking.{accepted-of}
 use Rattle.planner.proofs.Outcomes.{plan-yes, plan-no, promised}
 use Rattle.planner.proofs.planning.plan.Statement.{statement}
 use Rattle.planner.proofs.planning.plan.Tie as tie
 
-ask-layer-held-requires : tie.Need-ask-layer-held-requires
-ask-layer-held-requires c κs = search needs
+ask-held-firsts-requires : tie.Need-ask-held-firsts-requires
+ask-held-firsts-requires c κs = empty-set
 
 enum-told : tie.Need-enum-told
 enum-told c = search needs
 
 plan-accepted-requires : tie.Need-plan-accepted-requires
 plan-accepted-requires c κs =
-    let told = c .before .before in
+    let told = c .before .before .before in
     let asked = told .before .before in
-    let a = asked .before .before .before .before .before .args in
-    accepted-of (layerOf (sizeOf (a .w) (a .h)) (a .bitmap .now)) (a .table .now)
-    (sym (asked .ask-layer-held .ensures) ∙ told .enum-told .given .1)
+    let answers = asked .ask-held-firsts .ensures in
+    let yes = told .enum-told .given .1 in
+    let a = asked .before .before .before .before .before .before .args in
+    let L = layerOf (sizeOf (a .w) (a .h)) (a .bitmap .now) in
+    (accepted-of L (a .table .now) (sym (answers .0) ∙ yes), answers .1 yes)
 
 enum-known-answer : tie.Need-enum-known-answer
 enum-known-answer c = search needs
@@ -34,11 +37,11 @@ same-length-2 c = search needs
 returns : tie.Need-returns
 returns c =
     let done = c .before .before .before .before in
-    let told = done .before .before .before in
+    let told = done .before .before .before .before in
     let asked = told .before .before in
-    let a = asked .before .before .before .before .before .args in
+    let a = asked .before .before .before .before .before .before .args in
     let L = layerOf (sizeOf (a .w) (a .h)) (a .bitmap .now) in
-    let yes = sym (asked .ask-layer-held .ensures) ∙ told .enum-told .given .1 in
+    let yes = sym (asked .ask-held-firsts .ensures .0) ∙ told .enum-told .given .1 in
     promised L (a .table .now) (a .items .now) (a .points .now) _ _ _
     (done .plan-accepted .ensures ∙ plan-yes L (a .table .now) (firstSticks L) (a .items .now) (a .points .now) yes)
 
@@ -46,9 +49,9 @@ returns-2 : tie.Need-returns-2
 returns-2 c =
     let answer = c .before .answer in
     let asked = c .before .before .before in
-    let a = asked .before .before .before .before .before .args in
+    let a = asked .before .before .before .before .before .before .args in
     let L = layerOf (sizeOf (a .w) (a .h)) (a .bitmap .now) in
-    let no = sym (asked .ask-layer-held .ensures) ∙ answer .given .1 in
+    let no = sym (asked .ask-held-firsts .ensures .0) ∙ answer .given .1 in
     promised L (a .table .now) (a .items .now) (a .points .now) _ _ _
     (plan-no L (a .table .now) (firstSticks L) (a .items .now) (a .points .now) no)
 
@@ -56,7 +59,7 @@ pub plan-spec : {M : Type 1} → statement M
 plan-spec =
     tie.close
     (tie.spec
-    ask-layer-held-requires
+    ask-held-firsts-requires
     enum-told
     plan-accepted-requires
     enum-known-answer

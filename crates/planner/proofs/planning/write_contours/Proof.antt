@@ -80,12 +80,10 @@ loop-less c =
     let given = start .pre in
     let L = layerOf (a .size) (a .bitmap .now) in
     let s = a .set .now in
-    let n = at-loop .loop .n in
     let whole = at-loop .before .before .kind-start .ensures in
     let below = c .before .before .before .before .before .before .before .before .before .loop-test .taken in
     let after = c .next-first2 in
-    let e = after .ensures ∙ ap (nextIn s (n + 1)) whole in
-    omega (arith, next-from L (given .0) s (given .1 .1 .0) (n + 1) (after .result) (omega arith) e)
+    omega (arith, next-from L (given .0) s (given .1 .1 .0) _ (after .result) (omega arith) (after .ensures ∙ ap (nextIn s _) whole))
 
 loop-again : tie.Need-loop-again Inv-loop μ-loop
 loop-again c =
