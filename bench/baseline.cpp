@@ -26,21 +26,26 @@ struct Layer {
     size_t edges() const { return (w - 1) * h + w * (h - 1); }
     uint32_t number(bool vertical, size_t c, size_t r) const { return vertical ? h * (w - 1) + r * w + c : r * (w - 1) + c; }
 
-    bool is_stick(size_t n) const {
-        size_t horizontal = h * (w - 1);
-        if (n < horizontal) return inside(n % (w - 1), n / (w - 1)) != inside(n % (w - 1) + 1, n / (w - 1));
-        n -= horizontal;
-        return inside(n % w, n / w) != inside(n % w, n / w + 1);
+    // Calls visit(n, stick) for every edge, by number, until it says no; whether it never did.
+    template <class Visit> bool each_edge(Visit visit) const {
+        size_t n = 0;
+        for (size_t r = 0; r < h; r++)
+            for (size_t c = 0; c + 1 < w; c++)
+                if (!visit(n++, inside(c, r) != inside(c + 1, r))) return false;
+        for (size_t r = 0; r + 1 < h; r++)
+            for (size_t c = 0; c < w; c++)
+                if (!visit(n++, inside(c, r) != inside(c, r + 1))) return false;
+        return true;
     }
 
-    // The contour that starts at a horizontal stick, with inside on the left: directions 0 north, 1 east, 2 south, 3 west.
-    Contour walk(size_t column, size_t row) const {
-        Contour sticks;
+    // Calls visit for the sticks of the contour that starts at a horizontal one, with inside on the left: directions 0 north, 1 east,
+    // 2 south, 3 west.
+    template <class Visit> void walk(size_t column, size_t row, Visit visit) const {
         bool vertical = false;
         size_t x = column, y = row;
         int direction = inside(column, row) ? 0 : 2;
         do {
-            sticks.push_back({number(vertical, x, y), uint16_t(x), uint16_t(y), vertical});
+            visit(Stick{number(vertical, x, y), uint16_t(x), uint16_t(y), vertical});
             size_t c = x - (direction == 3), r = y - (direction == 2);
             bool sw = inside(c, r), se = inside(c + 1, r), nw = inside(c, r + 1), ne = inside(c + 1, r + 1);
             bool left = direction == 0 ? nw : direction == 1 ? ne : direction == 2 ? se : sw;
@@ -49,19 +54,25 @@ struct Layer {
             vertical = direction % 2 == 1;
             x = c + (direction == 1), y = r + (direction == 0);
         } while (vertical || x != column || y != row);
-        return sticks;
     }
 
-    std::vector<Contour> contours() const {
-        std::vector<Contour> all;
+    // Calls begin for the first stick of each contour, in order, and visit for its sticks.
+    template <class Begin, class Visit> void each_contour(Begin begin, Visit visit) const {
         std::vector<bool> passed(h * (w - 1));
         for (size_t r = 0; r < h; r++)
             for (size_t c = 0; c + 1 < w; c++)
                 if (inside(c, r) != inside(c + 1, r) && !passed[r * (w - 1) + c]) {
-                    all.push_back(walk(c, r));
-                    for (const Stick &stick : all.back())
+                    begin();
+                    walk(c, r, [&](const Stick &stick) {
                         if (!stick.vertical) passed[stick.number] = true;
+                        visit(stick);
+                    });
                 }
+    }
+
+    std::vector<Contour> contours() const {
+        std::vector<Contour> all;
+        each_contour([&] { all.emplace_back(); }, [&](const Stick &stick) { all.back().push_back(stick); });
         return all;
     }
 };
@@ -129,8 +140,11 @@ bool is_held(const Contour &contour, const uint16_t *table) {
 Refusal ask_1_to_7(const Layer &layer, size_t bytes, const uint16_t *table, size_t entries, std::vector<Contour> &contours) {
     Refusal refusal = ask_1_to_5(layer, bytes, entries);
     if (refusal.number) return refusal;
-    for (size_t n = 0; n < entries; n++)
-        if (layer.is_stick(n) ? !is_kept(table[n]) && !is_removed(table[n]) : table[n] != 0) return {6, n};
+    size_t wrong = 0;
+    if (!layer.each_edge([&](size_t n, bool stick) {
+            return wrong = n, stick ? is_kept(table[n]) || is_removed(table[n]) : table[n] == 0;
+        }))
+        return {6, wrong};
     contours = layer.contours();
     for (const Contour &contour : contours)
         if (!is_held(contour, table)) return {7, contour[0].number};
@@ -315,14 +329,16 @@ uint32_t counts(uint16_t w, uint16_t h, const uint8_t *bitmap, size_t bytes, con
             sticks += __builtin_popcount(*here ^ shifted);
             if (r + 1 < h) sticks += __builtin_popcount(*here ^ here[layer.stride]);
         }
-    return answer(figures, YES, inside, sticks, layer.contours().size());
+    uint64_t contours = 0;
+    layer.each_contour([&] { contours++; }, [](const Stick &) {});
+    return answer(figures, YES, inside, sticks, contours);
 }
 
 uint32_t trace(uint16_t w, uint16_t h, const uint8_t *bitmap, size_t bytes, uint16_t *table, size_t entries, uint64_t *figures) {
     Layer layer = layer_of(w, h, bitmap);
     Refusal refusal = ask_1_to_5(layer, bytes, entries);
     if (refusal.number) return answer(figures, refusal);
-    for (size_t n = 0; n < entries; n++) table[n] = layer.is_stick(n) ? 128 : 0;
+    layer.each_edge([&](size_t n, bool stick) { return table[n] = stick ? 128 : 0, true; });
     return answer(figures, YES);
 }
 
