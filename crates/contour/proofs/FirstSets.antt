@@ -8,8 +8,9 @@ use mathlib.Core.List.{List, [], _∷_, foldl}
 use Prim.Native.Nat.{ℕ, _+_, _-_, _≤_, _<_}
 use native.Mathlib.Decide.{decLt}
 use native.Mathlib.Omega.{arith}
+use lib.ListN.{length}
 use Rattle.arith.specs.Booleans.{both-sides}
-use Rattle.arith.specs.Ranges.{count, count-add, count-same, count-none}
+use Rattle.arith.specs.Ranges.{count, count-past, count-same}
 use Rattle.arith.specs.Finite.{Least, least-from}
 use Rattle.grid.specs.Layer.{Layer}
 use Rattle.grid.specs.Edges.{edgeAt, edgeCount, kindStart, isStick}
@@ -17,7 +18,7 @@ use Rattle.grid.specs.Questions.{Sound}
 use Rattle.grid.specs.declared.edge.Edge.{Edge}
 use Rattle.contour.specs.Walk.{first, firstsAmong, firstsFrom, contoursFrom, nextFirst}
 use Rattle.contour.specs.Contours.{walkOf, contourOf, firstSticks, contoursOf, contourCount}
-use Rattle.contour.specs.Sets.{places, has, FirstSet, nextIn, sizeOf}
+use Rattle.contour.specs.Sets.{words, places, has, FirstSet, nextIn, sizeOf}
 use Rattle.grid.proofs.Numbers.{kind-below}
 use Rattle.contour.proofs.First.{first-one}
 use Rattle.contour.proofs.Contours.{length-contours}
@@ -42,14 +43,15 @@ module _ (L : Layer) (sound : Sound L) (s : List ℕ) (set : FirstSet L s) where
   pub set-above : (k : ℕ) → kindStart (L .size) true ≤ k → has s k ≡ false
   set-above k l = set .says k ∙ none-past k l
 
+  -- which is what counting its numbers asks
+  pub counted-below : (end : ℕ) → end ≡ kindStart (L .size) true
+      → (length s ≡ words) × ((end ≤ places) × ((n : ℕ) → end ≤ n → has s n ≡ false))
+  counted-below end e = rw e (set .sized, (horizontal-fits (L .size) (sound .whole .sized), set-above))
+
   -- The set has as many numbers as the layer has contours
 
   count-to : (n : ℕ) → kindStart (L .size) true ≤ n → count isFirst n ≡ count isFirst (kindStart (L .size) true)
-  count-to n l =
-      let k : ℕ = kindStart (L .size) true in
-      let e : k + (n - k) ≡ n = omega arith in
-      sym (ap (count isFirst) e) ∙ count-add isFirst k (n - k)
-      ∙ omega (arith, count-none (λ j. isFirst (k + j)) (n - k) (λ j h. none-past (k + j) (omega arith)))
+  count-to n l = count-past isFirst (kindStart (L .size) true) n l none-past
 
   pub set-count : sizeOf s ≡ contourCount L
   set-count =

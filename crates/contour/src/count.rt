@@ -2,6 +2,7 @@
 use super::scan::first_sticks;
 use super::set::contour_count;
 use grid::Size;
+use grid::kind_start;
 ghost use mathlib.Core.Path.{_≡_};
 ghost use Rattle.grid.specs.Layer.{layerOf};
 ghost use Rattle.grid.specs.Questions.{Sound};
@@ -13,5 +14,5 @@ pub fn count_contours(size: Size, bitmap: &[u8]) -> usize
 {
     let mut set: [u64; 16368] = [0; 16368];
     first_sticks(size, bitmap, &mut set);
-    contour_count(&set)
+    contour_count(&set, kind_start(size, true))
 }

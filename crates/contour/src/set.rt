@@ -1,7 +1,8 @@
 // A set of edge numbers with one bit for each, in words of 64. Its size is that of a layer with 1,024 columns and rows: as many bits as
 // there are horizontal edges.
 ghost use mathlib.Core.Path.{_≡_};
-ghost use Prim.Native.Nat.{_-_, _≤_, _<_, min};
+ghost use mathlib.Core.Bool.{false};
+ghost use Prim.Native.Nat.{ℕ, _-_, _≤_, _<_, min};
 ghost use lib.ListN.{length};
 ghost use Rattle.arith.specs.Ranges.{count, least, leastFrom};
 ghost use Rattle.grid.specs.Layer.{bit};
@@ -99,14 +100,16 @@ pub fn next_first(set: &[u64; 16368], from: usize, end: usize) -> usize
     end
 }
 
-// How many numbers the set has.
-pub fn contour_count(set: &[u64; 16368]) -> usize
+// How many numbers the set has, of which none is `end` or above. The scan stops at the word that holds `end`.
+pub fn contour_count(set: &[u64; 16368], end: usize) -> usize
     requires { ⌜ length (now set) ≡ words ⌝ }
+    requires { ⌜ end ≤ places ⌝ }
+    requires { ⌜ ((n : ℕ) → end ≤ n → has (now set) n ≡ false) ⌝ }
     ensures { λ r. ⌜ r ≡ sizeOf (now (set .entry)) ⌝ }
 {
     let mut sum: usize = 0;
     let mut word = 0;
-    while word < 16368 {
+    while 64 * word < end {
         sum += ones_in(set[word]);
         word += 1;
     }

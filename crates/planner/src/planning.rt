@@ -85,7 +85,7 @@ fn plan_accepted(
     ensures { λ r. ⌜ outcome r (now (items .exit)) (now (points .exit)) ≡ acceptedOf (layerOf size (now (bitmap .entry))) (now (table .entry)) (now (items .entry)) (now (points .entry)) ⌝ }
 {
     let kept = count_kept(table);
-    if items.len() < kept + contour_count(set) {
+    if items.len() < kept + contour_count(set, kind_start(size, true)) {
         return Planned::Refused(Refusal::ShortOutput, 0);
     }
     if points.len() < 2 * kept {

@@ -19,8 +19,8 @@ pub record Outcome : Type 0 where
   pub table : List ℕ
 
 module _ (L : Layer) (tolerance : ℕ) (r : List ℕ) where
-  -- The n commands from i on at most, after some are done: "A refusal leaves all buffers as found, but for earlier commands of a roll." In a
-  -- roll that passes 8 no command is wrong and n does not run out.
+  -- The n commands from i on at most, after some are done: "A refusal leaves all buffers as found, but for earlier commands of a roll." The
+  -- places and n are those of `wellFormed`, which answers no where n runs out or a command is wrong: a roll that passes 8 comes to neither.
   unfoldable pub runFrom : ℕ → ℕ → ℕ → List ℕ → Outcome
   unfolding slideAnswer removalAnswer
   runFrom zero i done t = record { refusal = 0; place = 0; done = done; table = t }

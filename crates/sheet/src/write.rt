@@ -6,6 +6,7 @@ use contour::contour_count;
 use grid::Answer;
 use grid::Refusal;
 use grid::Size;
+use grid::kind_start;
 use grid::stick_count;
 ghost use mathlib.Core.Path.{_≡_};
 ghost use Prim.Native.Nat.{_+_, _*_, _≤_};
@@ -33,7 +34,7 @@ fn sheet_length(size: Size, bitmap: &[u8], set: &[u64; 16368]) -> usize
     requires { ⌜ FirstSet (layerOf size (now bitmap)) (now set) ⌝ }
     ensures { λ r. ⌜ r ≡ 6 + 6 * contourCount (layerOf size (now (bitmap .entry))) + 2 * stickCount (layerOf size (now (bitmap .entry))) ⌝ }
 {
-    6 + 6 * contour_count(set) + 2 * stick_count(size, bitmap)
+    6 + 6 * contour_count(set, kind_start(size, true)) + 2 * stick_count(size, bitmap)
 }
 
 // Stores the sheet of a layer and its table.

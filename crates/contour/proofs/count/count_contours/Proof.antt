@@ -3,21 +3,29 @@ use mathlib.Core.Path.{_∙_}
 use borrow.Author.Needs.{needs}
 use Rattle.grid.specs.Layer.{layerOf}
 use Rattle.contour.proofs.Sets.{empty-set}
-use Rattle.contour.proofs.FirstSets.{set-count}
+use Rattle.contour.proofs.FirstSets.{counted-below, set-count}
 use Rattle.contour.proofs.count.count_contours.Statement.{statement}
 use Rattle.contour.proofs.count.count_contours.Tie as tie
 
 first-sticks-requires : tie.Need-first-sticks-requires
 first-sticks-requires c κs = (c .before .before .pre, empty-set)
 
+kind-start-requires : tie.Need-kind-start-requires
+kind-start-requires c κs = search needs
+
 contour-count-requires : tie.Need-contour-count-requires
-contour-count-requires c κs = search needs
+contour-count-requires c κs =
+    let marked = c .before .before in
+    let start = marked .before .before .before in
+    let a = start .args in
+    counted-below (layerOf (a .size) (a .bitmap .now)) (start .pre) _ (marked .first-sticks .ensures) _ (c .kind-start .ensures)
 
 returns : tie.Need-returns
 returns c =
-    let a = c .before .before .before .before .before .args in
-    let L = layerOf (a .size) (a .bitmap .now) in
-    c .contour-count .ensures ∙ set-count L (c .before .before .before .before .before .pre) _ (c .before .before .first-sticks .ensures)
+    let marked = c .before .before .before in
+    let start = marked .before .before .before in
+    let a = start .args in
+    c .contour-count .ensures ∙ set-count (layerOf (a .size) (a .bitmap .now)) (start .pre) _ (marked .first-sticks .ensures)
 
 pub count-contours-spec : {M : Type 1} → statement M
-count-contours-spec = tie.close (tie.spec first-sticks-requires contour-count-requires returns)
+count-contours-spec = tie.close (tie.spec first-sticks-requires kind-start-requires contour-count-requires returns)

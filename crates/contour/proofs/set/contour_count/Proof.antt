@@ -1,25 +1,28 @@
 -- `contour_count` meets its contract. The invariant: the sum is how many numbers below 64 × word are in the set.
-use mathlib.Core.Path.{_≡_, refl, ap, _∙_}
+use mathlib.Core.Path.{_≡_, refl, sym, _∙_}
 use Prim.Native.Nat.{ℕ, _-_, _*_, _≤_}
 use native.Mathlib.Omega.{arith}
 use borrow.Author.Needs.{needs}
 use lib.ListN.{getD}
-use Rattle.arith.specs.Ranges.{count, count-le}
+use Rattle.arith.specs.Ranges.{count, count-le, count-past}
 use Rattle.grid.specs.Layer.{bit}
-use Rattle.contour.specs.Sets.{has}
+use Rattle.contour.specs.Sets.{places, has}
 use Rattle.contour.proofs.Sets.{count-word}
 use Rattle.contour.proofs.set.contour_count.Statement.{statement}
 use Rattle.contour.proofs.set.contour_count.Tie as tie
 
 abbrev Inv-loop : tie.InvT-loop
-Inv-loop set sum₀ word₀ sum word = (word ≤ 16368) × (sum ≡ count (has set) (64 * word))
+Inv-loop set end sum₀ word₀ sum word = (word ≤ 16368) × (sum ≡ count (has set) (64 * word))
 
 abbrev μ-loop : tie.MeasureT-loop
-μ-loop set sum₀ word₀ sum word = 16368 - word
+μ-loop set end sum₀ word₀ sum word = 16368 - word
 
 loop-holds : tie.Need-loop-holds Inv-loop μ-loop
 unfolding count
 loop-holds c = (search needs, refl)
+
+mul-loop : tie.Need-mul-loop Inv-loop μ-loop
+mul-loop c = search needs
 
 mul-ones-in : tie.Need-mul-ones-in Inv-loop μ-loop
 mul-ones-in c = search needs
@@ -54,9 +57,11 @@ loop-again c =
 
 returns : tie.Need-returns Inv-loop μ-loop
 returns c =
-    let t = c .before .before .args .set .now in
-    let end : c .before .loop .word ≡ 16368 = omega arith in
-    c .before .loop .inv .1 ∙ ap (λ (i : ℕ). count (has t) (64 * i)) end
+    let start = c .before .before in
+    let t = start .args .set .now in
+    let reached = 64 * c .before .loop .word in
+    c .before .loop .inv .1
+    ∙ sym (count-past (has t) reached places (omega arith) (λ n l. start .pre .1 .1 n (omega arith)))
 
 pub contour-count-spec : {M : Type 1} → statement M
 contour-count-spec =
@@ -65,6 +70,7 @@ contour-count-spec =
     Inv-loop
     μ-loop
     loop-holds
+    mul-loop
     mul-ones-in
     element-copy-out-ones-in
     ones-in-requires

@@ -91,7 +91,7 @@ loop-less c =
     let after = c .next-first2 in
     let whole = c .before .before .before .before .before .before .before .kind-start .ensures in
     let less = c .before .before .before .before .loop-test .taken in
-    omega (arith, next-from L (given .0) s (given .1 .1) (loop .n + 1) (after .result) (omega arith) (after .ensures ∙ ap (nextIn s (loop .n + 1)) whole))
+    omega (arith, next-from L (given .0) s (given .1 .1) _ (after .result) (omega arith) (after .ensures ∙ ap (nextIn s _) whole))
 
 loop-again : tie.Need-loop-again Inv-loop μ-loop
 loop-again c =
