@@ -1,12 +1,12 @@
 -- The links of the sixteen patterns. Each law is a test that antt computes over all patterns and sides, and `at` turns a test into the law.
 use mathlib.Core.Path.{_≡_, refl, ap, sym, _∙_}
-use mathlib.Core.Bool.{Bool, true, false, cond, not, _&&_, _||_, xor, Bool·beq}
+use mathlib.Core.Bool.{Bool, true, false, not, _&&_, _||_, xor, Bool·beq}
 use Prim.Native.Nat.{ℕ, _<_}
 use native.Mathlib.Omega.{arith}
 use lib.Dec.{T, eqb, eqb→eq}
-use Rattle.arith.specs.Booleans.{one-le, all, at-all, and-T, beq→eq, implied}
-use Rattle.grid.specs.Cells.{Corners, cut, diagonal, atInsideEnd, partner, index, sideIndex, sideAt, linkedTo}
-use Rattle.grid.specs.Turns.{left, right, leftAhead, rightAhead, leftOf, rightOf, opposite}
+use Rattle.arith.specs.Booleans.{all, at-all, and-T, beq→eq, implied}
+use Rattle.grid.specs.Cells.{Corners, cut, diagonal, atInsideEnd, partner, sideIndex, sideAt, linkedTo}
+use Rattle.grid.specs.Turns.{left, turn}
 use Rattle.grid.specs.declared.cell.Side.{Side}
 use Rattle.grid.specs.declared.cell.Side.the-variants.{South, East, North, West}
 
@@ -76,14 +76,6 @@ partner-corner k s h =
     (implied (diagonal k) (sameSide (partner k s) (atInsideEnd k s))
     (at (λ k s. not (diagonal k) || sameSide (partner k s) (atInsideEnd k s)) tt k s) h)
 
--- the two ends of a stick differ
-pub cut-right : (k : Corners) (s : Side) → cut k s ≡ true → right k s ≡ not (left k s)
-unfolding xor
-cut-right k s h =
-    beq→eq (right k s) (not (left k s))
-    (implied (cut k s) (Bool·beq (right k s) (not (left k s)))
-    (at (λ k s. not (cut k s) || Bool·beq (right k s) (not (left k s))) tt k s) h)
-
 -- who enters by a stick with inside on the left leaves by the one linked to it, and so has inside on the left there too
 pub partner-turns : (k : Corners) (s : Side) → cut k s ≡ true → left k (partner k s) ≡ not (left k s)
 unfolding xor
@@ -92,25 +84,15 @@ partner-turns k s h =
     (implied (cut k s) (Bool·beq (left k (partner k s)) (not (left k s)))
     (at (λ k s. not (cut k s) || Bool·beq (left k (partner k s)) (not (left k s))) tt k s) h)
 
--- with inside on the left a contour turns left where the corner ahead on the left is outside, else right where the one on the right is
--- inside, else it goes straight on
-pub partner-ahead : (k : Corners) (s : Side) → left k s ≡ true → right k s ≡ false
-    → partner k s ≡ cond (leftAhead k s) (cond (rightAhead k s) (rightOf s) (opposite s)) (leftOf s)
+-- the rule as turning left, right or neither
+pub partner-turn : (k : Corners) (s : Side) → cut k s ≡ true → partner k s ≡ turn (left k s) k s
 unfolding xor
-partner-ahead k s l r =
-    let there = cond (leftAhead k s) (cond (rightAhead k s) (rightOf s) (opposite s)) (leftOf s) in
-    same-side (partner k s) there
-    (implied (left k s && not (right k s)) (sameSide (partner k s) there)
-    (at (λ k s.
-    not (left k s && not (right k s))
-    || sameSide (partner k s) (cond (leftAhead k s) (cond (rightAhead k s) (rightOf s) (opposite s)) (leftOf s))) tt k s)
-    (rw (l, r)))
+partner-turn k s h =
+    same-side (partner k s) (turn (left k s) k s)
+    (implied (cut k s) (sameSide (partner k s) (turn (left k s) k s))
+    (at (λ k s. not (cut k s) || sameSide (partner k s) (turn (left k s) k s)) tt k s) h)
 
--- The numbers by which the table is read.
-
-pub index-below : (k : Corners) → index k < 16
-index-below k = omega (arith, one-le (k .sw), one-le (k .se), one-le (k .nw), one-le (k .ne))
-
+-- a side's number is that of its two bits in an entry of the table
 pub sideIndex-below : (s : Side) → sideIndex s < 4
 sideIndex-below South = omega arith
 sideIndex-below East = omega arith

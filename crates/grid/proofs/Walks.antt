@@ -20,17 +20,17 @@ use Rattle.grid.specs.declared.cell.Side.{Side}
 use Rattle.grid.specs.declared.cell.Side.the-variants.{South, East, North, West}
 use Rattle.grid.proofs.Borders.{west, east, bottom, top}
 use Rattle.grid.proofs.Numbers.{Within, within, in-grid}
-use Rattle.grid.proofs.Links.{sameSide, partner-partner, partner-cut, partner-other, cut-right, partner-turns}
+use Rattle.grid.proofs.Links.{sameSide, partner-partner, partner-cut, partner-other, partner-turns}
 
 -- a cell whose four samples are in the grid
 pub record InGrid (L : Layer) (p : CellSide) : Type 0 where
   pub column-inner : p .column + 1 < L .size .width
   pub row-inner : p .row + 1 < L .size .height
 
--- the contour crosses stick e into this cell, by this side, and leaves the cell at the next stick
-pub record Crosses (L : Layer) (e : Edge) (p : CellSide) : Type 0 where
-  pub enters : Entered L (p .column) (p .row) (p .side)
-  pub leaves : leaving L (p .column) (p .row) (p .side) ≡ next L e
+-- the cell is entered by this side, with inside on the left or not, and left at stick f
+pub record Crosses (L : Layer) (p : CellSide) (inside : Bool) (f : Edge) : Type 0 where
+  pub enters : Entered L (p .column) (p .row) (p .side) inside
+  pub leaves : leaving L (p .column) (p .row) (p .side) ≡ f
 
 -- the cell lies on the upper side of its south and its west side
 abbrev pub isUpper : Side → Bool
@@ -200,22 +200,17 @@ module _ (L : Layer) (sound : Sound L) where
         ∙ ap (isStick L) (edgeOf-beside (e .vertical) (e .column) (e .row) stick upper)
         ∙ stick
 
-    -- where the contour crosses the stick into this cell, it has inside on its left
-    pub crosses : upward L e ≡ upper → (p : CellSide) → here ≡ p → Crosses L e p
-    unfolding next
-    crosses u p h =
-        let inside = left-is (e .vertical) (e .column) (e .row) stick upper ∙ ap (λ (b : Bool). Bool·beq b upper) u ∙ beq-self upper in
-        subst (Crosses L e) h
-        (record {
-          enters = record {
-            whole = sound .whole;
-            column-inner = here-in .column-inner;
-            row-inner = here-in .row-inner;
-            left-inside = inside;
-            right-outside = cut-right (corners L (here .column) (here .row)) (here .side) here-cut ∙ ap not inside;
-          };
-          leaves = ap (λ (b : Bool). edgeOf (link L (beside e b))) (sym u);
-        })
+    here-crosses : Crosses L here (Bool·beq (upward L e) upper) (edgeOf there)
+    here-crosses = record {
+      enters = record {
+        whole = sound .whole;
+        column-inner = here-in .column-inner;
+        row-inner = here-in .row-inner;
+        stick = here-cut;
+        on-left = left-is (e .vertical) (e .column) (e .row) stick upper;
+      };
+      leaves = refl;
+    }
 
     pub there-stick : isStick L (edgeOf there) ≡ true
     there-stick =
@@ -240,6 +235,22 @@ module _ (L : Layer) (sound : Sound L) where
         (left-is (edgeOf there .vertical) (edgeOf there .column) (edgeOf there .row) there-stick (isUpper (there .side))))
         ∙ partner-turns (corners L (here .column) (here .row)) (here .side) here-cut
         ∙ ap not (left-is (e .vertical) (e .column) (e .row) stick upper)
+
+  -- the walk enters the cell ahead with inside on the left and leaves it at the next stick; the walk back enters the cell behind with inside
+  -- on the right and leaves it at the previous one
+  pub crosses-ahead : (e : Edge) → isStick L e ≡ true → (upper : Bool) → upward L e ≡ upper → (p : CellSide) → beside e upper ≡ p
+      → Crosses L p true (next L e)
+  unfolding next
+  crosses-ahead e stick upper u p h =
+      subst (λ q. Crosses L q true (next L e)) (ap (beside e) u ∙ h)
+      (subst (λ b. Crosses L (ahead L e) b (next L e)) (beq-self (upward L e)) (here-crosses e stick (upward L e)))
+
+  pub crosses-behind : (e : Edge) → isStick L e ≡ true → (upper : Bool) → upward L e ≡ upper → (p : CellSide) → beside e (not upper) ≡ p
+      → Crosses L p false (prev L e)
+  unfolding prev
+  crosses-behind e stick upper u p h =
+      subst (λ q. Crosses L q false (prev L e)) (ap (λ (b : Bool). beside e (not b)) u ∙ h)
+      (subst (λ b. Crosses L (behind L e) b (prev L e)) (beq-other (upward L e)) (here-crosses e stick (not (upward L e))))
 
   -- the cell that the walk entered at a stick is the one that it leaves at the next, and the other way round
   pub behind-next : (e : Edge) → isStick L e ≡ true → behind L (next L e) ≡ link L (ahead L e)

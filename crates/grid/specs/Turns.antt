@@ -1,29 +1,23 @@
--- A cell as a contour meets it: the corners and sides that it has ahead, left and right when it has entered by a side. Nothing here is a
--- rule; `partner` is the rule, and proofs/Links.antt shows what it comes to for who has inside on the left.
+-- A cell as one meets it who walks along a contour, or back: the corners and sides that are ahead, left and right when it is entered by a
+-- side. The rule is `partner`; what is said here of turning is shown to be the same (proofs/Links.antt: `partner-turn`).
 use mathlib.Core.Path.{_≡_}
-use mathlib.Core.Bool.{Bool, true, false}
+use mathlib.Core.Bool.{Bool, true, false, cond}
 use Prim.Native.Nat.{ℕ, _+_, _<_}
 use Rattle.grid.specs.Layer.{Layer}
-use Rattle.grid.specs.Cells.{Corners, corners, partner, edgeOn}
+use Rattle.grid.specs.Cells.{Corners, corners, cut, partner, edgeOn}
 use Rattle.grid.specs.Questions.{Whole}
 use Rattle.grid.specs.declared.edge.Edge.{Edge}
 use Rattle.grid.specs.declared.cell.Side.{Side}
 use Rattle.grid.specs.declared.cell.Side.the-variants.{South, East, North, West}
 
--- the corners at the two ends of the side of entry
+-- the corner on the left at the side of entry
 abbrev pub left : Corners → Side → Bool
 left k South = k .sw
 left k East = k .se
 left k North = k .ne
 left k West = k .nw
 
-abbrev pub right : Corners → Side → Bool
-right k South = k .se
-right k East = k .ne
-right k North = k .nw
-right k West = k .sw
-
--- the corners beyond them, across the cell
+-- the corners across the cell
 abbrev pub leftAhead : Corners → Side → Bool
 leftAhead k South = k .nw
 leftAhead k East = k .sw
@@ -55,14 +49,21 @@ opposite East = West
 opposite North = South
 opposite West = East
 
--- "A contour is walked with inside on its left": a cell in the grid that is entered so by a side
-pub record Entered (L : Layer) (c r : ℕ) (s : Side) : Type 0 where
+-- the side by which a cell is left that is entered by s: with inside on the left it is the one on the left where the corner ahead on the
+-- left is outside, else the one on the right where the corner ahead on the right is inside, else the opposite one; with inside on the right
+-- all this is mirrored
+abbrev pub turn : Bool → Corners → Side → Side
+turn true k s = cond (leftAhead k s) (cond (rightAhead k s) (rightOf s) (opposite s)) (leftOf s)
+turn false k s = cond (rightAhead k s) (cond (leftAhead k s) (leftOf s) (opposite s)) (rightOf s)
+
+-- a cell in the grid that is entered by a stick, with inside on the left or on the right
+pub record Entered (L : Layer) (c r : ℕ) (s : Side) (inside : Bool) : Type 0 where
   pub whole : Whole L
   pub column-inner : c + 1 < L .size .width
   pub row-inner : r + 1 < L .size .height
-  pub left-inside : left (corners L c r) s ≡ true
-  pub right-outside : right (corners L c r) s ≡ false
+  pub stick : cut (corners L c r) s ≡ true
+  pub on-left : left (corners L c r) s ≡ inside
 
--- the edge by which the cell is left that is entered by a side
+-- the edge by which it is left
 abbrev pub leaving : Layer → ℕ → ℕ → Side → Edge
 leaving L c r s = edgeOn c r (partner (corners L c r) s)

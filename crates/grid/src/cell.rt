@@ -1,13 +1,8 @@
 // The sides of a cell and the links between them. A cell is a square of four samples and has the column and row of its lower left one.
 use super::edge::Edge;
-use super::layer::Size;
-use super::layer::is_inside;
 ghost use mathlib.Core.Path.{_≡_};
-ghost use Prim.Native.Nat.{_+_, _≤_, _<_};
-ghost use Rattle.arith.specs.Booleans.{asNumber};
-ghost use Rattle.grid.specs.Layer.{layerOf};
-ghost use Rattle.grid.specs.Cells.{corners, index, sideIndex, sideAt, linkedIn, link, edgeOf};
-ghost use Rattle.grid.specs.Questions.{Whole};
+ghost use Prim.Native.Nat.{_<_};
+ghost use Rattle.grid.specs.Cells.{sideIndex, sideAt, linkedIn, edgeOf};
 
 pub enum Side {
     South,
@@ -43,27 +38,6 @@ const LINKS: [u8; 16] = [
     0b11_10_01_00, // all inside
 ];
 
-fn as_number(b: bool) -> usize
-    ensures { λ r. ⌜ r ≡ asNumber b ⌝ }
-    ensures { λ r. ⌜ r ≤ 1 ⌝ }
-{
-    if b { 1 } else { 0 }
-}
-
-// The number of a cell's pattern.
-fn pattern(size: Size, bitmap: &[u8], column: usize, row: usize) -> usize
-    requires { ⌜ Whole (layerOf size (now bitmap)) ⌝ }
-    requires { ⌜ column + 1 < size .width ⌝ }
-    requires { ⌜ row + 1 < size .height ⌝ }
-    ensures { λ r. ⌜ r ≡ index (corners (layerOf size (now (bitmap .entry))) column row) ⌝ }
-{
-    let sw = as_number(is_inside(size, bitmap, column, row));
-    let se = as_number(is_inside(size, bitmap, column + 1, row));
-    let nw = as_number(is_inside(size, bitmap, column, row + 1));
-    let ne = as_number(is_inside(size, bitmap, column + 1, row + 1));
-    sw + 2 * se + 4 * nw + 8 * ne
-}
-
 fn side_index(side: Side) -> usize
     ensures { λ r. ⌜ r ≡ sideIndex side ⌝ }
 {
@@ -92,21 +66,6 @@ pub fn linked_in(pattern: usize, side: Side) -> Side
     ensures { λ r. ⌜ r ≡ linkedIn pattern side ⌝ }
 {
     side_at((LINKS[pattern] >> (2 * side_index(side))) % 4)
-}
-
-// The side of the same cell that is linked to this one.
-pub fn linked(size: Size, bitmap: &[u8], p: CellSide) -> CellSide
-    requires { ⌜ Whole (layerOf size (now bitmap)) ⌝ }
-    requires { ⌜ p .column + 1 < size .width ⌝ }
-    requires { ⌜ p .row + 1 < size .height ⌝ }
-    ensures { λ r. ⌜ r ≡ link (layerOf size (now (bitmap .entry))) p ⌝ }
-{
-    let side = p.side;
-    CellSide {
-        column: p.column,
-        row: p.row,
-        side: linked_in(pattern(size, bitmap, p.column, p.row), side),
-    }
 }
 
 // The grid edge that a side of a cell is.

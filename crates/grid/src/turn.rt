@@ -1,5 +1,6 @@
-// The stick by which a contour leaves a cell, from the side by which it enters. It has inside on its left, so that the two corners at that
-// side are known, and the corner ahead on the right matters only if the one on the left is inside. The patterns looked up are constants.
+// The stick by which a cell is left, from the stick by which it is entered, with inside on the left, as a contour is walked, or on the right,
+// as it is walked back. So the two corners at that stick are known. Ahead, the corner on the outer side matters only if the one on the inner
+// side is inside. Each case looks up a pattern that is a constant.
 use super::cell::CellSide;
 use super::cell::Side;
 use super::cell::edge_of;
@@ -37,58 +38,94 @@ fn leave(column: usize, row: usize, pattern: usize, side: Side) -> Edge
     })
 }
 
-// To the north: sw is inside, se is not.
-pub fn from_south(size: Size, bitmap: &[u8], column: usize, row: usize) -> Edge
-    requires { ⌜ Entered (layerOf size (now bitmap)) column row South ⌝ }
+// To the north: sw is on the left, se on the right.
+pub fn from_south(size: Size, bitmap: &[u8], column: usize, row: usize, left: bool) -> Edge
+    requires { ⌜ Entered (layerOf size (now bitmap)) column row South left ⌝ }
     ensures { λ r. ⌜ r ≡ leaving (layerOf size (now (bitmap .entry))) column row South ⌝ }
 {
-    if !is_inside(size, bitmap, column, row + 1) {
-        return leave(column, row, SW, Side::South);
+    if left {
+        if !is_inside(size, bitmap, column, row + 1) {
+            return leave(column, row, SW, Side::South);
+        }
+        if is_inside(size, bitmap, column + 1, row + 1) {
+            return leave(column, row, SW + NW + NE, Side::South);
+        }
+        return leave(column, row, SW + NW, Side::South);
     }
-    if is_inside(size, bitmap, column + 1, row + 1) {
-        return leave(column, row, SW + NW + NE, Side::South);
-    }
-    leave(column, row, SW + NW, Side::South)
-}
-
-// To the west: se is inside, ne is not.
-pub fn from_east(size: Size, bitmap: &[u8], column: usize, row: usize) -> Edge
-    requires { ⌜ Entered (layerOf size (now bitmap)) column row East ⌝ }
-    ensures { λ r. ⌜ r ≡ leaving (layerOf size (now (bitmap .entry))) column row East ⌝ }
-{
-    if !is_inside(size, bitmap, column, row) {
-        return leave(column, row, SE, Side::East);
+    if !is_inside(size, bitmap, column + 1, row + 1) {
+        return leave(column, row, SE, Side::South);
     }
     if is_inside(size, bitmap, column, row + 1) {
-        return leave(column, row, SE + SW + NW, Side::East);
+        return leave(column, row, SE + NW + NE, Side::South);
     }
-    leave(column, row, SE + SW, Side::East)
+    leave(column, row, SE + NE, Side::South)
 }
 
-// To the south: ne is inside, nw is not.
-pub fn from_north(size: Size, bitmap: &[u8], column: usize, row: usize) -> Edge
-    requires { ⌜ Entered (layerOf size (now bitmap)) column row North ⌝ }
-    ensures { λ r. ⌜ r ≡ leaving (layerOf size (now (bitmap .entry))) column row North ⌝ }
+// To the west: se is on the left, ne on the right.
+pub fn from_east(size: Size, bitmap: &[u8], column: usize, row: usize, left: bool) -> Edge
+    requires { ⌜ Entered (layerOf size (now bitmap)) column row East left ⌝ }
+    ensures { λ r. ⌜ r ≡ leaving (layerOf size (now (bitmap .entry))) column row East ⌝ }
 {
-    if !is_inside(size, bitmap, column + 1, row) {
-        return leave(column, row, NE, Side::North);
+    if left {
+        if !is_inside(size, bitmap, column, row) {
+            return leave(column, row, SE, Side::East);
+        }
+        if is_inside(size, bitmap, column, row + 1) {
+            return leave(column, row, SE + SW + NW, Side::East);
+        }
+        return leave(column, row, SE + SW, Side::East);
+    }
+    if !is_inside(size, bitmap, column, row + 1) {
+        return leave(column, row, NE, Side::East);
     }
     if is_inside(size, bitmap, column, row) {
-        return leave(column, row, NE + SE + SW, Side::North);
+        return leave(column, row, NE + SW + NW, Side::East);
     }
-    leave(column, row, NE + SE, Side::North)
+    leave(column, row, NE + NW, Side::East)
 }
 
-// To the east: nw is inside, sw is not.
-pub fn from_west(size: Size, bitmap: &[u8], column: usize, row: usize) -> Edge
-    requires { ⌜ Entered (layerOf size (now bitmap)) column row West ⌝ }
-    ensures { λ r. ⌜ r ≡ leaving (layerOf size (now (bitmap .entry))) column row West ⌝ }
+// To the south: ne is on the left, nw on the right.
+pub fn from_north(size: Size, bitmap: &[u8], column: usize, row: usize, left: bool) -> Edge
+    requires { ⌜ Entered (layerOf size (now bitmap)) column row North left ⌝ }
+    ensures { λ r. ⌜ r ≡ leaving (layerOf size (now (bitmap .entry))) column row North ⌝ }
 {
-    if !is_inside(size, bitmap, column + 1, row + 1) {
-        return leave(column, row, NW, Side::West);
+    if left {
+        if !is_inside(size, bitmap, column + 1, row) {
+            return leave(column, row, NE, Side::North);
+        }
+        if is_inside(size, bitmap, column, row) {
+            return leave(column, row, NE + SE + SW, Side::North);
+        }
+        return leave(column, row, NE + SE, Side::North);
+    }
+    if !is_inside(size, bitmap, column, row) {
+        return leave(column, row, NW, Side::North);
     }
     if is_inside(size, bitmap, column + 1, row) {
-        return leave(column, row, NW + NE + SE, Side::West);
+        return leave(column, row, NW + SE + SW, Side::North);
     }
-    leave(column, row, NW + NE, Side::West)
+    leave(column, row, NW + SW, Side::North)
+}
+
+// To the east: nw is on the left, sw on the right.
+pub fn from_west(size: Size, bitmap: &[u8], column: usize, row: usize, left: bool) -> Edge
+    requires { ⌜ Entered (layerOf size (now bitmap)) column row West left ⌝ }
+    ensures { λ r. ⌜ r ≡ leaving (layerOf size (now (bitmap .entry))) column row West ⌝ }
+{
+    if left {
+        if !is_inside(size, bitmap, column + 1, row + 1) {
+            return leave(column, row, NW, Side::West);
+        }
+        if is_inside(size, bitmap, column + 1, row) {
+            return leave(column, row, NW + NE + SE, Side::West);
+        }
+        return leave(column, row, NW + NE, Side::West);
+    }
+    if !is_inside(size, bitmap, column + 1, row) {
+        return leave(column, row, SW, Side::West);
+    }
+    if is_inside(size, bitmap, column + 1, row + 1) {
+        return leave(column, row, SW + NE + SE, Side::West);
+    }
+    leave(column, row, SW + SE, Side::West)
 }

@@ -4,7 +4,7 @@ use borrow.Author.Tests.{not-true, not-false}
 use mathlib.Core.Path.{_≡_, sym, _∙_}
 use Rattle.grid.specs.Layer.{layerOf}
 use Rattle.grid.specs.declared.cell.Side.the-variants.{North}
-use Rattle.grid.proofs.Turns.{turns-left, turns-right, goes-on}
+use Rattle.grid.proofs.Turns.{left-inner, left-outer, left-opposite, right-inner, right-outer, right-opposite}
 use Rattle.grid.proofs.turn.from_north.Statement.{statement}
 use Rattle.grid.proofs.turn.from_north.Tie as tie
 
@@ -19,12 +19,12 @@ leave-requires c κs = search needs
 
 returns : tie.Need-returns
 returns c =
-    let start = c .before .before .before .before in
+    let asked = c .before .before in
+    let start = asked .before .before .before in
     let a = start .args in
-    let ahead = c .before .before .is-inside in
     c .leave .ensures
-    ∙ turns-left (layerOf (a .size) (a .bitmap .now)) (a .column) (a .row) North (start .pre)
-    (sym (ahead .ensures) ∙ not-true (ahead .result) (c .before .if1 .taken))
+    ∙ left-inner (layerOf (a .size) (a .bitmap .now)) (a .column) (a .row) North (a .left) (start .pre) (asked .before .if1 .taken)
+    (sym (asked .is-inside .ensures) ∙ not-true (asked .is-inside .result) (c .before .if2 .taken))
 
 is-inside-requires-2 : tie.Need-is-inside-requires-2
 is-inside-requires-2 c κs = search needs
@@ -40,14 +40,14 @@ leave-requires-2 c κs = search needs
 
 returns-2 : tie.Need-returns-2
 returns-2 c =
-    let from = c .before .before .before in
-    let start = from .before .before .before in
+    let again = c .before .before in
+    let asked = again .before .before in
+    let start = asked .before .before .before in
     let a = start .args in
-    let ahead = from .before .is-inside in
     c .leave2 .ensures
-    ∙ turns-right (layerOf (a .size) (a .bitmap .now)) (a .column) (a .row) North (start .pre)
-    (sym (ahead .ensures) ∙ not-false (ahead .result) (from .if1 .left))
-    (sym (c .before .before .is-inside2 .ensures) ∙ c .before .if2 .taken)
+    ∙ left-outer (layerOf (a .size) (a .bitmap .now)) (a .column) (a .row) North (a .left) (start .pre) (asked .before .if1 .taken)
+    (sym (asked .is-inside .ensures) ∙ not-false (asked .is-inside .result) (again .before .if2 .left))
+    (sym (again .is-inside2 .ensures) ∙ c .before .if3 .taken)
 
 add-leave-3 : tie.Need-add-leave-3
 add-leave-3 c = search needs
@@ -57,14 +57,72 @@ leave-requires-3 c κs = search needs
 
 returns-3 : tie.Need-returns-3
 returns-3 c =
-    let from = c .before .before .before in
-    let start = from .before .before .before in
+    let again = c .before .before in
+    let asked = again .before .before in
+    let start = asked .before .before .before in
     let a = start .args in
-    let ahead = from .before .is-inside in
     c .leave3 .ensures
-    ∙ goes-on (layerOf (a .size) (a .bitmap .now)) (a .column) (a .row) North (start .pre)
-    (sym (ahead .ensures) ∙ not-false (ahead .result) (from .if1 .left))
-    (sym (c .before .before .is-inside2 .ensures) ∙ c .before .if2 .left)
+    ∙ left-opposite (layerOf (a .size) (a .bitmap .now)) (a .column) (a .row) North (a .left) (start .pre) (asked .before .if1 .taken)
+    (sym (asked .is-inside .ensures) ∙ not-false (asked .is-inside .result) (again .before .if2 .left))
+    (sym (again .is-inside2 .ensures) ∙ c .before .if3 .left)
+
+is-inside-requires-3 : tie.Need-is-inside-requires-3
+is-inside-requires-3 c κs = search needs
+
+leave-requires-4 : tie.Need-leave-requires-4
+leave-requires-4 c κs = search needs
+
+returns-4 : tie.Need-returns-4
+returns-4 c =
+    let asked = c .before .before in
+    let start = asked .before .before .before in
+    let a = start .args in
+    c .leave4 .ensures
+    ∙ right-inner (layerOf (a .size) (a .bitmap .now)) (a .column) (a .row) North (a .left) (start .pre) (asked .before .if1 .left)
+    (sym (asked .is-inside3 .ensures) ∙ not-true (asked .is-inside3 .result) (c .before .if4 .taken))
+
+add-is-inside-2 : tie.Need-add-is-inside-2
+add-is-inside-2 c = search needs
+
+is-inside-requires-4 : tie.Need-is-inside-requires-4
+is-inside-requires-4 c κs = search needs
+
+add-leave-4 : tie.Need-add-leave-4
+add-leave-4 c = search needs
+
+add-leave-5 : tie.Need-add-leave-5
+add-leave-5 c = search needs
+
+leave-requires-5 : tie.Need-leave-requires-5
+leave-requires-5 c κs = search needs
+
+returns-5 : tie.Need-returns-5
+returns-5 c =
+    let again = c .before .before in
+    let asked = again .before .before in
+    let start = asked .before .before .before in
+    let a = start .args in
+    c .leave5 .ensures
+    ∙ right-outer (layerOf (a .size) (a .bitmap .now)) (a .column) (a .row) North (a .left) (start .pre) (asked .before .if1 .left)
+    (sym (asked .is-inside3 .ensures) ∙ not-false (asked .is-inside3 .result) (again .before .if4 .left))
+    (sym (again .is-inside4 .ensures) ∙ c .before .if5 .taken)
+
+add-leave-6 : tie.Need-add-leave-6
+add-leave-6 c = search needs
+
+leave-requires-6 : tie.Need-leave-requires-6
+leave-requires-6 c κs = search needs
+
+returns-6 : tie.Need-returns-6
+returns-6 c =
+    let again = c .before .before in
+    let asked = again .before .before in
+    let start = asked .before .before .before in
+    let a = start .args in
+    c .leave6 .ensures
+    ∙ right-opposite (layerOf (a .size) (a .bitmap .now)) (a .column) (a .row) North (a .left) (start .pre) (asked .before .if1 .left)
+    (sym (asked .is-inside3 .ensures) ∙ not-false (asked .is-inside3 .result) (again .before .if4 .left))
+    (sym (again .is-inside4 .ensures) ∙ c .before .if5 .left)
 
 pub from-north-spec : {M : Type 1} → statement M
 from-north-spec =
@@ -81,4 +139,16 @@ from-north-spec =
     returns-2
     add-leave-3
     leave-requires-3
-    returns-3)
+    returns-3
+    is-inside-requires-3
+    leave-requires-4
+    returns-4
+    add-is-inside-2
+    is-inside-requires-4
+    add-leave-4
+    add-leave-5
+    leave-requires-5
+    returns-5
+    add-leave-6
+    leave-requires-6
+    returns-6)

@@ -1,11 +1,12 @@
--- `next_stick` meets its contract: the direction and the kind tell by which side the cell ahead is entered.
+-- `next_stick` meets its contract: the kind and the direction tell by which side the cell ahead is entered.
 use borrow.Author.Needs.{needs}
 use mathlib.Core.Path.{_≡_, sym, _∙_}
 use mathlib.Core.Bool.{true, false}
 use Prim.Native.Nat.{_-_}
 use Rattle.grid.specs.Layer.{layerOf}
+use Rattle.grid.specs.Walk.{next}
 use Rattle.grid.specs.declared.cell.Side.the-variants.{South, East, North, West}
-use Rattle.grid.proofs.Walks.{stick-low, Crosses, crosses}
+use Rattle.grid.proofs.Walks.{stick-low, Crosses, crosses-ahead}
 use Rattle.grid.proofs.walk.next_stick.Statement.{statement}
 use Rattle.grid.proofs.walk.next_stick.Tie as tie
 
@@ -14,45 +15,53 @@ is-upward-requires c κs = search needs
 
 west : (c : tie.Then2)
     → let a = c .before .before .before .before .args in
-    Crosses (layerOf (a .size) (a .bitmap .now)) (a .e) (record { column = a .e .column; row = a .e .row; side = West })
+    let L = layerOf (a .size) (a .bitmap .now) in
+    Crosses L (record { column = a .e .column; row = a .e .row; side = West }) true (next L (a .e))
 west c =
     let asked = c .before .before in
     let start = asked .before .before in
     let a = start .args in
-    crosses (layerOf (a .size) (a .bitmap .now)) (start .pre .0) (a .e) (start .pre .1) true (sym (asked .is-upward .ensures) ∙ c .if2 .taken)
+    crosses-ahead (layerOf (a .size) (a .bitmap .now)) (start .pre .0) (a .e) (start .pre .1) true
+    (sym (asked .is-upward .ensures) ∙ c .if2 .taken)
     (record { column = a .e .column; row = a .e .row; side = West })
     (rw (c .before .if1 .taken))
 
 east : (c : tie.Else2)
     → let a = c .before .before .before .before .args in
-    Crosses (layerOf (a .size) (a .bitmap .now)) (a .e) (record { column = a .e .column - 1; row = a .e .row; side = East })
+    let L = layerOf (a .size) (a .bitmap .now) in
+    Crosses L (record { column = a .e .column - 1; row = a .e .row; side = East }) true (next L (a .e))
 east c =
     let asked = c .before .before in
     let start = asked .before .before in
     let a = start .args in
-    crosses (layerOf (a .size) (a .bitmap .now)) (start .pre .0) (a .e) (start .pre .1) false (sym (asked .is-upward .ensures) ∙ c .if2 .left)
+    crosses-ahead (layerOf (a .size) (a .bitmap .now)) (start .pre .0) (a .e) (start .pre .1) false
+    (sym (asked .is-upward .ensures) ∙ c .if2 .left)
     (record { column = a .e .column - 1; row = a .e .row; side = East })
     (rw (c .before .if1 .taken))
 
 south : (c : tie.Then3)
     → let a = c .before .before .before .before .args in
-    Crosses (layerOf (a .size) (a .bitmap .now)) (a .e) (record { column = a .e .column; row = a .e .row; side = South })
+    let L = layerOf (a .size) (a .bitmap .now) in
+    Crosses L (record { column = a .e .column; row = a .e .row; side = South }) true (next L (a .e))
 south c =
     let asked = c .before .before in
     let start = asked .before .before in
     let a = start .args in
-    crosses (layerOf (a .size) (a .bitmap .now)) (start .pre .0) (a .e) (start .pre .1) true (sym (asked .is-upward .ensures) ∙ c .if3 .taken)
+    crosses-ahead (layerOf (a .size) (a .bitmap .now)) (start .pre .0) (a .e) (start .pre .1) true
+    (sym (asked .is-upward .ensures) ∙ c .if3 .taken)
     (record { column = a .e .column; row = a .e .row; side = South })
     (rw (c .before .if1 .left))
 
 north : (c : tie.Else3)
     → let a = c .before .before .before .before .args in
-    Crosses (layerOf (a .size) (a .bitmap .now)) (a .e) (record { column = a .e .column; row = a .e .row - 1; side = North })
+    let L = layerOf (a .size) (a .bitmap .now) in
+    Crosses L (record { column = a .e .column; row = a .e .row - 1; side = North }) true (next L (a .e))
 north c =
     let asked = c .before .before in
     let start = asked .before .before in
     let a = start .args in
-    crosses (layerOf (a .size) (a .bitmap .now)) (start .pre .0) (a .e) (start .pre .1) false (sym (asked .is-upward .ensures) ∙ c .if3 .left)
+    crosses-ahead (layerOf (a .size) (a .bitmap .now)) (start .pre .0) (a .e) (start .pre .1) false
+    (sym (asked .is-upward .ensures) ∙ c .if3 .left)
     (record { column = a .e .column; row = a .e .row - 1; side = North })
     (rw (c .before .if1 .left))
 

@@ -1,54 +1,120 @@
--- `previous_stick` meets its contract.
-use native.Mathlib.Omega.{arith}
+-- `previous_stick` meets its contract: the kind and the direction tell by which side the cell behind is entered.
 use borrow.Author.Needs.{needs}
-use mathlib.Core.Path.{_≡_, ap, _∙_}
-use mathlib.Core.Bool.{not}
+use mathlib.Core.Path.{_≡_, sym, _∙_}
+use mathlib.Core.Bool.{true, false}
+use Prim.Native.Nat.{_-_}
 use Rattle.grid.specs.Layer.{layerOf}
-use Rattle.grid.specs.Cells.{link, edgeOf}
-use Rattle.grid.specs.Walk.{beside, prev}
-use Rattle.grid.proofs.Walks.{InGrid, stick-low, cell-beside}
+use Rattle.grid.specs.Walk.{prev}
+use Rattle.grid.specs.declared.cell.Side.the-variants.{South, East, North, West}
+use Rattle.grid.proofs.Walks.{stick-low, Crosses, crosses-behind}
 use Rattle.grid.proofs.walk.previous_stick.Statement.{statement}
 use Rattle.grid.proofs.walk.previous_stick.Tie as tie
 
 is-upward-requires : tie.Need-is-upward-requires
 is-upward-requires c κs = search needs
 
-cell-beside-requires : tie.Need-cell-beside-requires
-cell-beside-requires c κs =
-    let start = c .before .before in
+east : (c : tie.Then2)
+    → let a = c .before .before .before .before .args in
+    let L = layerOf (a .size) (a .bitmap .now) in
+    Crosses L (record { column = a .e .column - 1; row = a .e .row; side = East }) false (prev L (a .e))
+east c =
+    let asked = c .before .before in
+    let start = asked .before .before in
     let a = start .args in
-    λ _. stick-low (layerOf (a .size) (a .bitmap .now)) (start .pre .0) (a .e .vertical) (a .e .column) (a .e .row) (start .pre .1)
+    crosses-behind (layerOf (a .size) (a .bitmap .now)) (start .pre .0) (a .e) (start .pre .1) true
+    (sym (asked .is-upward .ensures) ∙ c .if2 .taken)
+    (record { column = a .e .column - 1; row = a .e .row; side = East })
+    (rw (c .before .if1 .taken))
 
-in-grid : (c : tie.After-cell-beside)
-    → InGrid (layerOf (c .before .before .before .args .size) (c .before .before .before .args .bitmap .now)) (c .cell-beside .result)
-in-grid c =
-    let start = c .before .before .before in
+west : (c : tie.Else2)
+    → let a = c .before .before .before .before .args in
+    let L = layerOf (a .size) (a .bitmap .now) in
+    Crosses L (record { column = a .e .column; row = a .e .row; side = West }) false (prev L (a .e))
+west c =
+    let asked = c .before .before in
+    let start = asked .before .before in
     let a = start .args in
-    rw (c .cell-beside .ensures)
-    (cell-beside (layerOf (a .size) (a .bitmap .now)) (start .pre .0) (a .e .vertical) (a .e .column) (a .e .row) (start .pre .1)
-    (not (c .before .is-upward .result)))
+    crosses-behind (layerOf (a .size) (a .bitmap .now)) (start .pre .0) (a .e) (start .pre .1) false
+    (sym (asked .is-upward .ensures) ∙ c .if2 .left)
+    (record { column = a .e .column; row = a .e .row; side = West })
+    (rw (c .before .if1 .taken))
 
-linked-requires : tie.Need-linked-requires
-linked-requires c κs = (c .before .before .before .pre .0 .whole, (in-grid c .column-inner, in-grid c .row-inner))
+north : (c : tie.Then3)
+    → let a = c .before .before .before .before .args in
+    let L = layerOf (a .size) (a .bitmap .now) in
+    Crosses L (record { column = a .e .column; row = a .e .row - 1; side = North }) false (prev L (a .e))
+north c =
+    let asked = c .before .before in
+    let start = asked .before .before in
+    let a = start .args in
+    crosses-behind (layerOf (a .size) (a .bitmap .now)) (start .pre .0) (a .e) (start .pre .1) true
+    (sym (asked .is-upward .ensures) ∙ c .if3 .taken)
+    (record { column = a .e .column; row = a .e .row - 1; side = North })
+    (rw (c .before .if1 .left))
 
-edge-of-requires : tie.Need-edge-of-requires
-edge-of-requires c κs =
-    let inside = in-grid (c .before) in
-    let sized = c .before .before .before .before .pre .0 .whole .sized in
-    rw (c .linked .ensures) (omega arith)
+south : (c : tie.Else3)
+    → let a = c .before .before .before .before .args in
+    let L = layerOf (a .size) (a .bitmap .now) in
+    Crosses L (record { column = a .e .column; row = a .e .row; side = South }) false (prev L (a .e))
+south c =
+    let asked = c .before .before in
+    let start = asked .before .before in
+    let a = start .args in
+    crosses-behind (layerOf (a .size) (a .bitmap .now)) (start .pre .0) (a .e) (start .pre .1) false
+    (sym (asked .is-upward .ensures) ∙ c .if3 .left)
+    (record { column = a .e .column; row = a .e .row; side = South })
+    (rw (c .before .if1 .left))
+
+sub-from-east : tie.Need-sub-from-east
+sub-from-east c =
+    let start = c .before .before .before .before in
+    let a = start .args in
+    rw (c .before .if1 .taken) at
+    (stick-low (layerOf (a .size) (a .bitmap .now)) (start .pre .0) (a .e .vertical) (a .e .column) (a .e .row) (start .pre .1))
+
+from-east-requires : tie.Need-from-east-requires
+from-east-requires c κs = east c .enters
+
+from-west-requires : tie.Need-from-west-requires
+from-west-requires c κs = west c .enters
+
+sub-from-north : tie.Need-sub-from-north
+sub-from-north c =
+    let start = c .before .before .before .before in
+    let a = start .args in
+    rw (c .before .if1 .left) at
+    (stick-low (layerOf (a .size) (a .bitmap .now)) (start .pre .0) (a .e .vertical) (a .e .column) (a .e .row) (start .pre .1))
+
+from-north-requires : tie.Need-from-north-requires
+from-north-requires c κs = north c .enters
+
+from-south-requires : tie.Need-from-south-requires
+from-south-requires c κs = south c .enters
 
 returns : tie.Need-returns
-unfolding prev
-returns c =
-    let asked = c .before .before .before in
-    let a = asked .before .before .args in
-    let L = layerOf (a .size) (a .bitmap .now) in
-    c .edge-of .ensures
-    ∙ ap edgeOf
-    (c .before .linked .ensures
-    ∙ ap (link L) (c .before .before .cell-beside .ensures ∙ ap (λ b. beside (a .e) (not b)) (asked .is-upward .ensures)))
+returns c = c .from-east .ensures ∙ east (c .before) .leaves
+
+returns-2 : tie.Need-returns-2
+returns-2 c = c .from-west .ensures ∙ west (c .before) .leaves
+
+returns-3 : tie.Need-returns-3
+returns-3 c = c .from-north .ensures ∙ north (c .before) .leaves
+
+returns-4 : tie.Need-returns-4
+returns-4 c = c .from-south .ensures ∙ south (c .before) .leaves
 
 pub previous-stick-spec : {M : Type 1} → statement M
 previous-stick-spec =
     tie.close
-    (tie.spec is-upward-requires cell-beside-requires linked-requires edge-of-requires returns)
+    (tie.spec
+    is-upward-requires
+    sub-from-east
+    from-east-requires
+    from-west-requires
+    sub-from-north
+    from-north-requires
+    from-south-requires
+    returns
+    returns-2
+    returns-3
+    returns-4)
