@@ -1,7 +1,8 @@
--- Laws that the proofs of this crate and of those above it cite: on walks along a run (Steps), on runs that are tried (Trying), on contours
--- in turn (Layers), on the call's outcome (Outcomes), what trying a run makes of it (Covers), the theorem that a held layer stays held
--- (Held), and the paper's cases (Examples).
+-- Laws that the proofs of this crate and of those above it cite: on walks along a run (Steps), on marks along a contour (Marking), on runs
+-- that are tried (Trying), on contours in turn (Layers), on the call's outcome (Outcomes), what trying a run makes of it (Covers), the theorem
+-- that a held layer stays held (Held), and the paper's cases (Examples).
 pub mod Steps
+pub mod Marking
 pub mod Trying
 pub mod Layers
 pub mod Outcomes

@@ -1,13 +1,20 @@
--- What the loops along a run cite: the sticks that are left, taken one at a time.
-use mathlib.Core.Path.{_≡_, refl, _∙_, ap}
+-- Walks along a contour: steps taken together, and what the loops along a run cite, the sticks that are left, taken one at a time.
+use mathlib.Core.Path.{_≡_, refl, sym, _∙_, ap}
 use mathlib.Core.Bool.{Bool, true, false, _&&_}
 use mathlib.Core.List.{List, [], _∷_, foldl}
-use Prim.Native.Nat.{ℕ, zero, suc, _-_, _≤_, _<_}
+use Prim.Native.Nat.{ℕ, zero, suc, _+_, _-_, _≤_, _<_}
 use native.Mathlib.Omega.{arith}
+use lib.ListN.{length}
 use Rattle.grid.specs.Layer.{Layer}
+use Rattle.grid.specs.Edges.{edgeCount, isStick}
+use Rattle.grid.specs.Questions.{Sound}
 use Rattle.grid.specs.Walk.{next}
 use Rattle.grid.specs.declared.edge.Edge.{Edge}
+use Rattle.grid.proofs.Numbers.{edges-small}
 use Rattle.contour.specs.Walk.{ahead}
+use Rattle.contour.specs.Contours.{walkOf, contourOf}
+use Rattle.contour.proofs.Orbit.{ahead-add, ahead-one, round}
+use Rattle.contour.proofs.Sticks.{laws}
 use Rattle.held.specs.Held.{each, vertex}
 use Rattle.simplify.specs.Runs.{stickAfter, following, between, chordPasses, passes, removeVertex}
 
@@ -23,6 +30,14 @@ module _ (L : Layer) where
   stick-more (suc n) e e′ h step =
       let m : suc n - 1 ≡ n = omega arith in
       rw (m, step)
+
+  -- steps from f to `at` and on from there to r, and those from f to r
+  pub steps-on : (f at r : Edge) (p q s : ℕ) → p + q ≡ s → at ≡ stickAfter L p f → r ≡ stickAfter L q at → r ≡ stickAfter L s f
+  steps-on f at r p q s sum here on =
+      on ∙ ap (stickAfter L q) here ∙ sym (ahead-add (walkOf L) p q f) ∙ ap (λ (k : ℕ). stickAfter L k f) sum
+
+  pub steps-from : (f at r : Edge) (p q : ℕ) → at ≡ stickAfter L p f → r ≡ stickAfter L (p + q) f → r ≡ stickAfter L q at
+  steps-from f at r p q here there = there ∙ ahead-add (walkOf L) p q f ∙ ap (stickAfter L q) (sym here)
 
   -- the sticks between, of which none or one more is left
   pub between-none : (n : ℕ) (e : Edge) → n ≤ 1 → between L e n ≡ []
@@ -60,3 +75,17 @@ module _ (L : Layer) where
   unfolding passes
   passes-is t tolerance e end n at-end =
       ap (λ (q : Edge). each (chordPasses L t tolerance (vertex L t e) (vertex L t q)) (between L e n)) at-end
+
+module _ (L : Layer) (sound : Sound L) where
+  pub stick-on : (f at : Edge) (n : ℕ) → isStick L f ≡ true → at ≡ stickAfter L n f → isStick L at ≡ true
+  stick-on f at n stick here = rw here (ahead-one (walkOf L) (laws L sound) n f stick)
+
+  -- as many steps as a contour has sticks lead back, and it has no more than there are edges
+  pub once-round : (f : Edge) (n : ℕ) → isStick L f ≡ true → n ≡ length (contourOf L f) → f ≡ stickAfter L n f
+  once-round f n stick all = sym (ap (λ (k : ℕ). stickAfter L k f) all ∙ round (walkOf L) (laws L sound) f stick .back)
+
+  pub most-sticks : (f : Edge) → isStick L f ≡ true → (length (contourOf L f) ≤ edgeCount (L .size)) × (length (contourOf L f) ≤ 2095104)
+  most-sticks f stick =
+      let most = round (walkOf L) (laws L sound) f stick .within in
+      let small = edges-small (L .size) (sound .whole .sized) in
+      (most, omega arith)

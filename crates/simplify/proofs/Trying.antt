@@ -263,3 +263,12 @@ module _ (L : Layer) (tolerance : ℕ) where
 
   pub within-of : (depth : ℕ) (t : List ℕ) (e : Edge) (n : ℕ) (p : Progress) → p ≡ tryRun L tolerance depth (begun t) e n → Within n (begun t) p
   within-of depth t e n p at-p = rw at-p (try-within depth (begun t) e n)
+
+  -- the counts of two parts are small
+  pub parts-small : (t : List ℕ) (e m : Edge) (n h : ℕ) → Split n → h ≡ half n → n ≤ 2095104 → (p q : Progress)
+      → p ≡ tryRun L tolerance h (begun t) e h → q ≡ tryRun L tolerance (n - h) (begun (p .table)) m (n - h)
+      → (p .removed + q .removed ≤ 2095104) × (p .tried + q .tried ≤ 4190208)
+  parts-small t e m n h s at-h small p q at-p at-q =
+      let first = within-of h t e h p at-p in
+      let second = within-of (n - h) (p .table) m (n - h) q at-q in
+      (omega (arith, s, first, second), omega (arith, s, first, second))

@@ -1,4 +1,5 @@
 -- What the promise of Simplify says.
 pub mod Runs
 pub mod Parts
+pub mod Marks
 pub mod Call

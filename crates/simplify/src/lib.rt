@@ -2,6 +2,8 @@
 // n log n at most.
 mod call;
 mod contours;
+mod long;
+mod marks;
 mod run;
 mod tries;
 

@@ -1,4 +1,5 @@
 // Trying runs: a run that passes loses its inner vertices, one that does not is split and its parts are tried; and so a contour.
+use super::long::simplify_long;
 use super::run::RunCounts;
 use super::run::half_of;
 use super::run::passes_run;
@@ -19,8 +20,11 @@ ghost use Rattle.contour.specs.Contours.{contourOf};
 ghost use Rattle.simplify.specs.Runs.{stickAfter, tryRun, simplifyContour};
 ghost use Rattle.simplify.specs.Parts.{begun, reached};
 
+// A contour of this many sticks or more is worth marks.
+const LONG_CONTOUR: usize = 4096;
+
 // Tries the run of n edges from stick e to stick `end`.
-fn try_run(
+pub fn try_run(
     size: Size,
     bitmap: &[u8],
     table: &mut [u16],
@@ -86,6 +90,9 @@ pub fn simplify_contour(
     ensures { λ r. ⌜ reached r (now (table .exit)) ≡ simplifyContour (layerOf size (now (bitmap .entry))) t (begun (now (table .entry))) first ⌝ }
 {
     let n = contour_length(size, bitmap, first);
+    if LONG_CONTOUR <= n {
+        return simplify_long(size, bitmap, table, t, first, n);
+    }
     let h = half_of(n);
     let middle = stick_after(size, bitmap, first, h);
     let one = try_run(size, bitmap, table, t, first, middle, h);

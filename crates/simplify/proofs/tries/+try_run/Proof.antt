@@ -1,6 +1,5 @@
 -- `try_run` meets its contract. The measure is the number of edges: a run that does not pass has two or more, so both parts are shorter.
 use mathlib.Core.Path.{_≡_, sym, ap, _∙_}
-use mathlib.Core.Bool.{true}
 use mathlib.Core.List.{List}
 use Prim.Native.Nat.{ℕ, _+_, _-_, _≤_, _<_}
 use native.Mathlib.Omega.{arith}
@@ -8,12 +7,9 @@ use borrow.Author.Needs.{needs}
 use borrow.Fn.Kinds.{In}
 use borrow.Fn.PlainCycle.{Measures, is, falls, and}
 use Rattle.grid.specs.Layer.{layerOf}
-use Rattle.grid.specs.Edges.{isStick}
 use Rattle.grid.proofs.Numbers.{edges-small}
-use Rattle.contour.specs.Contours.{walkOf}
-use Rattle.contour.proofs.Orbit.{ahead-one}
-use Rattle.contour.proofs.Sticks.{laws}
-use Rattle.simplify.proofs.Trying.{Split, split, end-of, run-passed, run-split, within-of}
+use Rattle.simplify.proofs.Steps.{stick-on}
+use Rattle.simplify.proofs.Trying.{Split, split, end-of, run-passed, run-split, parts-small}
 use Rattle.simplify.proofs.tries.try_run.Reads as try-run
 use Rattle.simplify.proofs.tries.try_run.Kinds as try-run-kinds
 use Rattle.simplify.proofs.tries.+try_run.Lts-try_run as try-run-lts
@@ -117,29 +113,22 @@ try-run-try-run-requires-2 t c κs =
     let middle = c .before .before .before .before .before .stick-after in
     let n = start .pre .0 in
     let most = given .1 .1 .1 .1 .1 in
-    let stick : isStick L (middle .result) ≡ true =
-    rw (middle .ensures) (ahead-one (walkOf L) (laws L (given .0)) (half .result) (a .e) (given .1 .1 .0)) in
+    let stick = stick-on L (given .0) (a .e) (middle .result) (half .result) (given .1 .1 .0) (middle .ensures) in
     let end = end-of L (a .t) (a .e) (middle .result) (a .end) (a .n) (half .result) (omega (arith, s, h)) (middle .ensures) (given .1 .1 .1 .0) in
     (omega (arith, s, h), (given .0, (c .before .before .before .try-run .kept .1 .1 .0 ∙ given .1 .0, (stick, (end, (omega (arith, s, h), omega (arith, s, h)))))))
 
 -- the counts of the two parts are small
-module _ (t : ℕ) (c : try-run-lts.After-try-run2 (claims t) (try-run-at t) try-run.Post) where
-  abbrev halving : try-run-lts.After-half-of (claims t) (try-run-at t) try-run.Post
-  halving = c .before .before .before .before .before .before .before
-
-  counts-small : (c .before .before .before .before .try-run .result .removed + c .try-run2 .result .removed ≤ 2095104)
-      × (c .before .before .before .before .try-run .result .tried + c .try-run2 .result .tried ≤ 4190208)
-  counts-small =
-      let start = halving .before .before .before .before .before .before in
-      let a = start .args in
-      let L = layerOf (a .size) (a .bitmap .now) in
-      let s = parts t (halving .before) in
-      let h = halving .half-of .ensures in
-      let first = within-of L (a .t) _ _ _ _ _ (c .before .before .before .before .try-run .ensures) in
-      let second = within-of L (a .t) _ _ _ _ _ (c .try-run2 .ensures) in
-      let small = edges-small (a .size) (start .pre .1 .0 .whole .sized) in
-      let most = start .pre .1 .1 .1 .1 .1 .1 in
-      (omega (arith, s, h, first, second), omega (arith, s, h, first, second))
+counts-small : (t : ℕ) → (c : try-run-lts.After-try-run2 (claims t) (try-run-at t) try-run.Post)
+    → (c .before .before .before .before .try-run .result .removed + c .try-run2 .result .removed ≤ 2095104)
+    × (c .before .before .before .before .try-run .result .tried + c .try-run2 .result .tried ≤ 4190208)
+counts-small t c =
+    let halving = c .before .before .before .before .before .before .before in
+    let start = halving .before .before .before .before .before .before in
+    let a = start .args in
+    let small = edges-small (a .size) (start .pre .1 .0 .whole .sized) in
+    let most = start .pre .1 .1 .1 .1 .1 .1 in
+    parts-small (layerOf (a .size) (a .bitmap .now)) (a .t) _ _ _ _ _ (parts t (halving .before)) (halving .half-of .ensures) (omega arith)
+    _ _ (c .before .before .before .before .try-run .ensures) (c .try-run2 .ensures)
 
 try-run-add-t23 : (t : ℕ) → try-run-lts.Need-add-t23 (claims t) (try-run-at t) try-run.Post
 try-run-add-t23 t c = record { fits = omega (arith, counts-small t (c .before .before .before .before)) }

@@ -1,0 +1,56 @@
+// Marks along a long contour: the numbers of its sticks at equal distances, by which the stick at any place of it is a short walk away. There
+// is room for a contour of as many sticks as a layer of 1,024 × 1,024 has edges, and none is longer.
+use super::run::stick_after;
+use grid::Edge;
+use grid::Size;
+use grid::edge_at;
+use grid::number_of;
+ghost use mathlib.Core.Path.{_≡_};
+ghost use mathlib.Core.Bool.{true};
+ghost use Prim.Native.Nat.{_<_};
+ghost use lib.ListN.{length};
+ghost use Rattle.grid.specs.Layer.{layerOf};
+ghost use Rattle.grid.specs.Edges.{isStick};
+ghost use Rattle.grid.specs.Questions.{Sound};
+ghost use Rattle.contour.specs.Contours.{contourOf};
+ghost use Rattle.simplify.specs.Runs.{stickAfter};
+ghost use Rattle.simplify.specs.Marks.{places, origin, Marked};
+
+// How many steps lead from one mark to the next.
+const APART: usize = 64;
+
+// Marks the contour of n sticks that starts at `first`.
+pub fn put_marks(size: Size, bitmap: &[u8], first: Edge, n: usize, marks: &mut [u32; 32736])
+    requires { ⌜ Sound (layerOf size (now bitmap)) ⌝ }
+    requires { ⌜ isStick (layerOf size (now bitmap)) first ≡ true ⌝ }
+    requires { ⌜ n ≡ length (contourOf (layerOf size (now bitmap)) first) ⌝ }
+    requires { ⌜ length (now marks) ≡ places ⌝ }
+    ensures { λ r. ⌜ origin (layerOf size (now (bitmap .entry))) (now (marks .exit)) ≡ first ⌝ }
+    ensures { λ r. ⌜ Marked (layerOf size (now (bitmap .entry))) (now (marks .exit)) ⌝ }
+{
+    let mut at = first;
+    let mut k: usize = 0;
+    while k * APART < n {
+        marks[k] = number_of(size, at) as u32;
+        at = stick_after(size, bitmap, at, APART);
+        k += 1;
+    }
+}
+
+fn widen(x: u32) -> usize
+    ensures { λ r. ⌜ r ≡ x ⌝ }
+{
+    x as usize
+}
+
+// The stick p steps on from where the marks start.
+pub fn stick_at(size: Size, bitmap: &[u8], marks: &[u32; 32736], p: usize) -> Edge
+    requires { ⌜ Sound (layerOf size (now bitmap)) ⌝ }
+    requires { ⌜ Marked (layerOf size (now bitmap)) (now marks) ⌝ }
+    requires { ⌜ p < length (contourOf (layerOf size (now bitmap)) (origin (layerOf size (now bitmap)) (now marks))) ⌝ }
+    ensures { λ r. ⌜ r ≡ stickAfter (layerOf size (now (bitmap .entry))) p (origin (layerOf size (now (bitmap .entry))) (now (marks .entry))) ⌝ }
+{
+    let k = p / APART;
+    let near = edge_at(size, widen(marks[k]));
+    stick_after(size, bitmap, near, p % APART)
+}
