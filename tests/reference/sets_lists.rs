@@ -103,6 +103,9 @@ pub fn large(b: &mut Builder) {
         let discs = picture::discs(&mut b.rng, 64, 64, 5);
         every_call(b, &discs);
     }
+    let (w, h) = (b.rng.between(90, 160), b.rng.between(90, 160));
+    every_call(b, &picture::serpentine(w, h));
+    every_call(b, &picture::spiral(w, h));
     let largest = picture::discs(&mut b.rng, 1024, 1024, 6);
     every_call(b, &largest);
 }
