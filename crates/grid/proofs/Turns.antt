@@ -1,37 +1,31 @@
--- Where a cell is left that is entered by a stick, in the three cases on each hand: on the inner side where the corner ahead there is
--- outside, else on the outer side where the corner ahead there is inside, else opposite.
+-- Where a cell is left that is entered by a stick, in the three cases that turn.rt tells apart by asking the corners ahead.
 use mathlib.Core.Path.{_≡_, ap, sym, _∙_}
-use mathlib.Core.Bool.{Bool, true, false}
+use mathlib.Core.Bool.{Bool, true, false, not}
 use Prim.Native.Nat.{ℕ}
+use borrow.Author.Tests.{not-true, not-false}
 use Rattle.grid.specs.Layer.{Layer}
-use Rattle.grid.specs.Cells.{Corners, corners, edgeOn}
-use Rattle.grid.specs.Turns.{leftAhead, rightAhead, leftOf, rightOf, opposite, turn, Entered, leaving}
+use Rattle.grid.specs.Cells.{corners, edgeOn}
+use Rattle.grid.specs.Turns.{innerAhead, outerAhead, innerOf, outerOf, opposite, turn, Entered, leaving}
 use Rattle.grid.specs.declared.cell.Side.{Side}
 use Rattle.grid.proofs.Links.{partner-turn}
 
-module _ (L : Layer) (c r : ℕ) (s : Side) (inside : Bool) (h : Entered L c r s inside) where
-  abbrev k : Corners
-  k = corners L c r
+-- for who has inside on the left or not: the answers a and b for the corners ahead on the inner and on the outer side, and the edge
+pub record Turning (L : Layer) (c r : ℕ) (s : Side) (inside : Bool) : Type 0 where
+  pub inner : (hand : Bool) → inside ≡ hand → (a : Bool) → a ≡ innerAhead hand (corners L c r) s → not a ≡ true
+      → edgeOn c r (innerOf hand s) ≡ leaving L c r s
+  pub outer : (hand : Bool) → inside ≡ hand → (a : Bool) → a ≡ innerAhead hand (corners L c r) s → not a ≡ false
+      → (b : Bool) → b ≡ outerAhead hand (corners L c r) s → b ≡ true → edgeOn c r (outerOf hand s) ≡ leaving L c r s
+  pub straight : (hand : Bool) → inside ≡ hand → (a : Bool) → a ≡ innerAhead hand (corners L c r) s → not a ≡ false
+      → (b : Bool) → b ≡ outerAhead hand (corners L c r) s → b ≡ false → edgeOn c r (opposite s) ≡ leaving L c r s
 
-  turns : edgeOn c r (turn inside k s) ≡ leaving L c r s
-  turns = ap (λ (b : Bool). edgeOn c r (turn b k s)) (sym (h .on-left)) ∙ sym (ap (edgeOn c r) (partner-turn k s (h .stick)))
-
-  module _ (hand : inside ≡ true) where
-    pub left-inner : leftAhead k s ≡ false → edgeOn c r (leftOf s) ≡ leaving L c r s
-    left-inner l = rw (hand, l) at turns
-
-    pub left-outer : leftAhead k s ≡ true → rightAhead k s ≡ true → edgeOn c r (rightOf s) ≡ leaving L c r s
-    left-outer l a = rw (hand, l, a) at turns
-
-    pub left-opposite : leftAhead k s ≡ true → rightAhead k s ≡ false → edgeOn c r (opposite s) ≡ leaving L c r s
-    left-opposite l a = rw (hand, l, a) at turns
-
-  module _ (hand : inside ≡ false) where
-    pub right-inner : rightAhead k s ≡ false → edgeOn c r (rightOf s) ≡ leaving L c r s
-    right-inner a = rw (hand, a) at turns
-
-    pub right-outer : rightAhead k s ≡ true → leftAhead k s ≡ true → edgeOn c r (leftOf s) ≡ leaving L c r s
-    right-outer a l = rw (hand, a, l) at turns
-
-    pub right-opposite : rightAhead k s ≡ true → leftAhead k s ≡ false → edgeOn c r (opposite s) ≡ leaving L c r s
-    right-opposite a l = rw (hand, a, l) at turns
+pub turning : (L : Layer) (c r : ℕ) (s : Side) (inside : Bool) → Entered L c r s inside → Turning L c r s inside
+turning L c r s inside h = record {
+  inner = λ hand e a is no. rw (sym is ∙ not-true a no) at (turns hand e);
+  outer = λ hand e a is no b is′ yes. rw (sym is ∙ not-false a no, sym is′ ∙ yes) at (turns hand e);
+  straight = λ hand e a is no b is′ yes. rw (sym is ∙ not-false a no, sym is′ ∙ yes) at (turns hand e);
+}
+  where
+    turns : (hand : Bool) → inside ≡ hand → edgeOn c r (turn hand (corners L c r) s) ≡ leaving L c r s
+    turns hand e =
+        ap (λ (b : Bool). edgeOn c r (turn b (corners L c r) s)) (sym (h .on-left ∙ e))
+        ∙ sym (ap (edgeOn c r) (partner-turn (corners L c r) s (h .stick)))

@@ -236,21 +236,29 @@ module _ (L : Layer) (sound : Sound L) where
         ∙ partner-turns (corners L (here .column) (here .row)) (here .side) here-cut
         ∙ ap not (left-is (e .vertical) (e .column) (e .row) stick upper)
 
+  -- across the cell on the upper or the lower side, by the kind of the stick
+  crossings : (e : Edge) → isStick L e ≡ true → (upper inside : Bool) (f : Edge) → Crosses L (beside e upper) inside f
+      → (v : Bool) → e .vertical ≡ v → Crosses L (beside (edge v (e .column) (e .row)) upper) inside f
+  crossings e stick upper inside f here v kind =
+      subst (λ (w : Bool). Crosses L (beside (edge w (e .column) (e .row)) upper) inside f) kind here
+
   -- the walk enters the cell ahead with inside on the left and leaves it at the next stick; the walk back enters the cell behind with inside
   -- on the right and leaves it at the previous one
-  pub crosses-ahead : (e : Edge) → isStick L e ≡ true → (upper : Bool) → upward L e ≡ upper → (p : CellSide) → beside e upper ≡ p
-      → Crosses L p true (next L e)
+  pub crosses-ahead : (e : Edge) → isStick L e ≡ true → (v upper : Bool) → e .vertical ≡ v → upper ≡ upward L e
+      → Crosses L (beside (edge v (e .column) (e .row)) upper) true (next L e)
   unfolding next
-  crosses-ahead e stick upper u p h =
-      subst (λ q. Crosses L q true (next L e)) (ap (beside e) u ∙ h)
-      (subst (λ b. Crosses L (ahead L e) b (next L e)) (beq-self (upward L e)) (here-crosses e stick (upward L e)))
+  crosses-ahead e stick v upper kind u =
+      crossings e stick upper true (next L e)
+      (subst (λ (b : Bool). Crosses L (beside e b) true (next L e)) (sym u)
+      (subst (λ (b : Bool). Crosses L (ahead L e) b (next L e)) (beq-self (upward L e)) (here-crosses e stick (upward L e)))) v kind
 
-  pub crosses-behind : (e : Edge) → isStick L e ≡ true → (upper : Bool) → upward L e ≡ upper → (p : CellSide) → beside e (not upper) ≡ p
-      → Crosses L p false (prev L e)
+  pub crosses-behind : (e : Edge) → isStick L e ≡ true → (v upper : Bool) → e .vertical ≡ v → upper ≡ upward L e
+      → Crosses L (beside (edge v (e .column) (e .row)) (not upper)) false (prev L e)
   unfolding prev
-  crosses-behind e stick upper u p h =
-      subst (λ q. Crosses L q false (prev L e)) (ap (λ (b : Bool). beside e (not b)) u ∙ h)
-      (subst (λ b. Crosses L (behind L e) b (prev L e)) (beq-other (upward L e)) (here-crosses e stick (not (upward L e))))
+  crosses-behind e stick v upper kind u =
+      crossings e stick (not upper) false (prev L e)
+      (subst (λ (b : Bool). Crosses L (beside e (not b)) false (prev L e)) (sym u)
+      (subst (λ (b : Bool). Crosses L (behind L e) b (prev L e)) (beq-other (upward L e)) (here-crosses e stick (not (upward L e))))) v kind
 
   -- the cell that the walk entered at a stick is the one that it leaves at the next, and the other way round
   pub behind-next : (e : Edge) → isStick L e ≡ true → behind L (next L e) ≡ link L (ahead L e)

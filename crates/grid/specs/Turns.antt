@@ -49,12 +49,23 @@ opposite East = West
 opposite North = South
 opposite West = East
 
--- the side by which a cell is left that is entered by s: with inside on the left it is the one on the left where the corner ahead on the
--- left is outside, else the one on the right where the corner ahead on the right is inside, else the opposite one; with inside on the right
--- all this is mirrored
+-- who has inside on the left has the inner side there, else on the right
+abbrev pub innerAhead : Bool → Corners → Side → Bool
+innerAhead inside k s = cond inside (leftAhead k s) (rightAhead k s)
+
+abbrev pub outerAhead : Bool → Corners → Side → Bool
+outerAhead inside k s = cond inside (rightAhead k s) (leftAhead k s)
+
+abbrev pub innerOf : Bool → Side → Side
+innerOf inside s = cond inside (leftOf s) (rightOf s)
+
+abbrev pub outerOf : Bool → Side → Side
+outerOf inside s = cond inside (rightOf s) (leftOf s)
+
+-- the side by which a cell is left that is entered by s: the inner one where the corner ahead on the inner side is outside, else the outer
+-- one where the corner ahead on the outer side is inside, else the opposite one
 abbrev pub turn : Bool → Corners → Side → Side
-turn true k s = cond (leftAhead k s) (cond (rightAhead k s) (rightOf s) (opposite s)) (leftOf s)
-turn false k s = cond (rightAhead k s) (cond (leftAhead k s) (leftOf s) (opposite s)) (rightOf s)
+turn inside k s = cond (innerAhead inside k s) (cond (outerAhead inside k s) (outerOf inside s) (opposite s)) (innerOf inside s)
 
 -- a cell in the grid that is entered by a stick, with inside on the left or on the right
 pub record Entered (L : Layer) (c r : ℕ) (s : Side) (inside : Bool) : Type 0 where

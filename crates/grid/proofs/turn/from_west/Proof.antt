@@ -1,12 +1,17 @@
 -- `from_west` meets its contract.
 use borrow.Author.Needs.{needs}
-use borrow.Author.Tests.{not-true, not-false}
-use mathlib.Core.Path.{_≡_, sym, _∙_}
+use mathlib.Core.Path.{_≡_, _∙_}
+use mathlib.Core.Bool.{true, false}
 use Rattle.grid.specs.Layer.{layerOf}
 use Rattle.grid.specs.declared.cell.Side.the-variants.{West}
-use Rattle.grid.proofs.Turns.{left-inner, left-outer, left-opposite, right-inner, right-outer, right-opposite}
+use Rattle.grid.proofs.Turns.{Turning, turning}
 use Rattle.grid.proofs.turn.from_west.Statement.{statement}
 use Rattle.grid.proofs.turn.from_west.Tie as tie
+
+turns : (c : tie.Start)
+    → let a = c .args in
+    Turning (layerOf (a .size) (a .bitmap .now)) (a .column) (a .row) West (a .left)
+turns c = let a = c .args in turning (layerOf (a .size) (a .bitmap .now)) (a .column) (a .row) West (a .left) (c .pre)
 
 add-is-inside : tie.Need-add-is-inside
 add-is-inside c = search needs
@@ -23,11 +28,8 @@ leave-requires c κs = search needs
 returns : tie.Need-returns
 returns c =
     let asked = c .before .before in
-    let start = asked .before .before .before in
-    let a = start .args in
     c .leave .ensures
-    ∙ left-inner (layerOf (a .size) (a .bitmap .now)) (a .column) (a .row) West (a .left) (start .pre) (asked .before .if1 .taken)
-    (sym (asked .is-inside .ensures) ∙ not-true (asked .is-inside .result) (c .before .if2 .taken))
+    ∙ turns (asked .before .before .before) .inner true (asked .before .if1 .taken) _ (asked .is-inside .ensures) (c .before .if2 .taken)
 
 add-is-inside-3 : tie.Need-add-is-inside-3
 add-is-inside-3 c = search needs
@@ -48,12 +50,9 @@ returns-2 : tie.Need-returns-2
 returns-2 c =
     let again = c .before .before in
     let asked = again .before .before in
-    let start = asked .before .before .before in
-    let a = start .args in
     c .leave2 .ensures
-    ∙ left-outer (layerOf (a .size) (a .bitmap .now)) (a .column) (a .row) West (a .left) (start .pre) (asked .before .if1 .taken)
-    (sym (asked .is-inside .ensures) ∙ not-false (asked .is-inside .result) (again .before .if2 .left))
-    (sym (again .is-inside2 .ensures) ∙ c .before .if3 .taken)
+    ∙ turns (asked .before .before .before) .outer true (asked .before .if1 .taken) _ (asked .is-inside .ensures) (again .before .if2 .left)
+    _ (again .is-inside2 .ensures) (c .before .if3 .taken)
 
 add-leave-3 : tie.Need-add-leave-3
 add-leave-3 c = search needs
@@ -65,12 +64,9 @@ returns-3 : tie.Need-returns-3
 returns-3 c =
     let again = c .before .before in
     let asked = again .before .before in
-    let start = asked .before .before .before in
-    let a = start .args in
     c .leave3 .ensures
-    ∙ left-opposite (layerOf (a .size) (a .bitmap .now)) (a .column) (a .row) West (a .left) (start .pre) (asked .before .if1 .taken)
-    (sym (asked .is-inside .ensures) ∙ not-false (asked .is-inside .result) (again .before .if2 .left))
-    (sym (again .is-inside2 .ensures) ∙ c .before .if3 .left)
+    ∙ turns (asked .before .before .before) .straight true (asked .before .if1 .taken) _ (asked .is-inside .ensures) (again .before .if2 .left)
+    _ (again .is-inside2 .ensures) (c .before .if3 .left)
 
 add-is-inside-4 : tie.Need-add-is-inside-4
 add-is-inside-4 c = search needs
@@ -84,11 +80,8 @@ leave-requires-4 c κs = search needs
 returns-4 : tie.Need-returns-4
 returns-4 c =
     let asked = c .before .before in
-    let start = asked .before .before .before in
-    let a = start .args in
     c .leave4 .ensures
-    ∙ right-inner (layerOf (a .size) (a .bitmap .now)) (a .column) (a .row) West (a .left) (start .pre) (asked .before .if1 .left)
-    (sym (asked .is-inside3 .ensures) ∙ not-true (asked .is-inside3 .result) (c .before .if4 .taken))
+    ∙ turns (asked .before .before .before) .inner false (asked .before .if1 .left) _ (asked .is-inside3 .ensures) (c .before .if4 .taken)
 
 add-is-inside-5 : tie.Need-add-is-inside-5
 add-is-inside-5 c = search needs
@@ -112,12 +105,9 @@ returns-5 : tie.Need-returns-5
 returns-5 c =
     let again = c .before .before in
     let asked = again .before .before in
-    let start = asked .before .before .before in
-    let a = start .args in
     c .leave5 .ensures
-    ∙ right-outer (layerOf (a .size) (a .bitmap .now)) (a .column) (a .row) West (a .left) (start .pre) (asked .before .if1 .left)
-    (sym (asked .is-inside3 .ensures) ∙ not-false (asked .is-inside3 .result) (again .before .if4 .left))
-    (sym (again .is-inside4 .ensures) ∙ c .before .if5 .taken)
+    ∙ turns (asked .before .before .before) .outer false (asked .before .if1 .left) _ (asked .is-inside3 .ensures) (again .before .if4 .left)
+    _ (again .is-inside4 .ensures) (c .before .if5 .taken)
 
 add-leave-6 : tie.Need-add-leave-6
 add-leave-6 c = search needs
@@ -129,12 +119,9 @@ returns-6 : tie.Need-returns-6
 returns-6 c =
     let again = c .before .before in
     let asked = again .before .before in
-    let start = asked .before .before .before in
-    let a = start .args in
     c .leave6 .ensures
-    ∙ right-opposite (layerOf (a .size) (a .bitmap .now)) (a .column) (a .row) West (a .left) (start .pre) (asked .before .if1 .left)
-    (sym (asked .is-inside3 .ensures) ∙ not-false (asked .is-inside3 .result) (again .before .if4 .left))
-    (sym (again .is-inside4 .ensures) ∙ c .before .if5 .left)
+    ∙ turns (asked .before .before .before) .straight false (asked .before .if1 .left) _ (asked .is-inside3 .ensures) (again .before .if4 .left)
+    _ (again .is-inside4 .ensures) (c .before .if5 .left)
 
 pub from-west-spec : {M : Type 1} → statement M
 from-west-spec =
