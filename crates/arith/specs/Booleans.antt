@@ -14,7 +14,7 @@ pub one-le : (b : Bool) → asNumber b ≤ 1
 one-le true = omega arith
 one-le false = omega arith
 
--- by cases on a test, with what it came to
+-- by cases on a test, with its answer at hand
 pub both-sides : (b : Bool) {P : Type 0} → (b ≡ true → P) → (b ≡ false → P) → P
 both-sides true t f = t refl
 both-sides false t f = f refl

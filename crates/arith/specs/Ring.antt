@@ -1,4 +1,4 @@
--- Identities of commutative rings over ℤ, by computing: an expression over the integers of a list comes to a normal form, and two expressions with one
+-- Identities of commutative rings over ℤ, by computing: an expression over the integers of a list is brought to a normal form, and two expressions with one
 -- normal form have one value. `ring (x ∷ y ∷ []) (search quotes depth 9) refl` proves an equation over x and y; the search reads the two sides as
 -- expressions. The list is of up to eight integers, any terms, a `pos k` too; a literal that it does not list is `pos` or `negsuc` of a numeral.
 use mathlib.Core.Path.{_≡_, refl, sym, ap, ap₂, _∙_, subst}

@@ -1,5 +1,7 @@
 // How many contours a layer has.
 use super::scan::first_sticks;
+use super::set::EdgeSet;
+use super::set::WORDS;
 use super::set::contour_count;
 use grid::Size;
 use grid::kind_start;
@@ -12,7 +14,7 @@ pub fn count_contours(size: Size, bitmap: &[u8]) -> usize
     requires { ⌜ Sound (layerOf size (now bitmap)) ⌝ }
     ensures { λ r. ⌜ r ≡ contourCount (layerOf size (now (bitmap .entry))) ⌝ }
 {
-    let mut set: [u64; 16368] = [0; 16368];
+    let mut set: EdgeSet = [0; WORDS];
     first_sticks(size, bitmap, &mut set);
     contour_count(&set, kind_start(size, true))
 }

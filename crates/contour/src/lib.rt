@@ -7,5 +7,7 @@ mod set;
 pub use count::count_contours;
 pub use edge::same_edge;
 pub use scan::first_sticks;
+pub use set::EdgeSet;
+pub use set::WORDS;
 pub use set::contour_count;
 pub use set::next_first;

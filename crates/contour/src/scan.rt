@@ -1,6 +1,7 @@
 // The set of first sticks. The horizontal edges are scanned upward by number. A stick whose bit is set lies on the contour of an earlier
 // one: its bit is cleared. A stick whose bit is clear is first: its contour is walked and the bit of each horizontal stick on it set.
 use super::edge::same_edge;
+use super::set::EdgeSet;
 use super::set::contains;
 use super::set::insert;
 use super::set::lowest_bit;
@@ -19,7 +20,7 @@ ghost use Rattle.grid.specs.Layer.{layerOf, stride};
 ghost use Rattle.grid.specs.Edges.{isStick};
 ghost use Rattle.grid.specs.Questions.{Sound};
 ghost use Rattle.contour.specs.Contours.{contourOf};
-ghost use Rattle.contour.specs.Sets.{words, Empty, FirstSet};
+ghost use Rattle.contour.specs.Sets.{words, Empty, EdgeSet};
 ghost use Rattle.contour.specs.Marking.{markEdge, Scanned};
 
 fn widen(x: u8) -> u64
@@ -30,7 +31,7 @@ fn widen(x: u8) -> u64
 }
 
 // Sets the bit of each horizontal stick on the contour that starts at `first`.
-fn mark_contour(size: Size, bitmap: &[u8], set: &mut [u64; 16368], first: Edge)
+fn mark_contour(size: Size, bitmap: &[u8], set: &mut EdgeSet, first: Edge)
     requires { ⌜ Sound (layerOf size (now bitmap)) ⌝ }
     requires { ⌜ isStick (layerOf size (now bitmap)) first ≡ true ⌝ }
     requires { ⌜ length (now set) ≡ words ⌝ }
@@ -49,7 +50,7 @@ fn mark_contour(size: Size, bitmap: &[u8], set: &mut [u64; 16368], first: Edge)
 }
 
 // One step of the scan, at a horizontal stick.
-fn scan_stick(size: Size, bitmap: &[u8], set: &mut [u64; 16368], column: usize, row: usize)
+fn scan_stick(size: Size, bitmap: &[u8], set: &mut EdgeSet, column: usize, row: usize)
     requires { ⌜ Sound (layerOf size (now bitmap)) ⌝ }
     requires { ⌜ isStick (layerOf size (now bitmap)) (record { vertical = false; column = column; row = row }) ≡ true ⌝ }
     requires { ⌜ Scanned (layerOf size (now bitmap)) (row * (size .width - 1) + column) (now set) ⌝ }
@@ -73,7 +74,7 @@ fn scan_stick(size: Size, bitmap: &[u8], set: &mut [u64; 16368], column: usize, 
 }
 
 // The edges of a row in the columns 8 × at to 8 × at + 7: from stick to stick, so a byte without one costs nothing more.
-fn scan_byte(size: Size, bitmap: &[u8], set: &mut [u64; 16368], at: usize, row: usize)
+fn scan_byte(size: Size, bitmap: &[u8], set: &mut EdgeSet, at: usize, row: usize)
     requires { ⌜ Sound (layerOf size (now bitmap)) ⌝ }
     requires { ⌜ at < stride size ⌝ }
     requires { ⌜ row < size .height ⌝ }
@@ -90,7 +91,7 @@ fn scan_byte(size: Size, bitmap: &[u8], set: &mut [u64; 16368], at: usize, row: 
     }
 }
 
-fn scan_row(size: Size, bitmap: &[u8], set: &mut [u64; 16368], row: usize)
+fn scan_row(size: Size, bitmap: &[u8], set: &mut EdgeSet, row: usize)
     requires { ⌜ Sound (layerOf size (now bitmap)) ⌝ }
     requires { ⌜ row < size .height ⌝ }
     requires { ⌜ Scanned (layerOf size (now bitmap)) (row * (size .width - 1)) (now set) ⌝ }
@@ -105,10 +106,10 @@ fn scan_row(size: Size, bitmap: &[u8], set: &mut [u64; 16368], row: usize)
 }
 
 // Puts the numbers of all first sticks into the set, in time linear in the number of edges.
-pub fn first_sticks(size: Size, bitmap: &[u8], set: &mut [u64; 16368])
+pub fn first_sticks(size: Size, bitmap: &[u8], set: &mut EdgeSet)
     requires { ⌜ Sound (layerOf size (now bitmap)) ⌝ }
     requires { ⌜ Empty (now set) ⌝ }
-    ensures { λ r. ⌜ FirstSet (layerOf size (now (bitmap .entry))) (now (set .exit)) ⌝ }
+    ensures { λ r. ⌜ EdgeSet (layerOf size (now (bitmap .entry))) (now (set .exit)) ⌝ }
 {
     let height = size.height;
     let mut row = 0;

@@ -9,7 +9,13 @@ ghost use Rattle.grid.specs.Layer.{bit};
 ghost use Rattle.contour.specs.Sets.{words, places, has, nextIn, sizeOf};
 ghost use Rattle.contour.specs.Marking.{with, without};
 
-pub fn contains(set: &[u64; 16368], n: usize) -> bool
+// How many words a set has: a bit for each horizontal edge of a layer of 1,024 × 1,024.
+pub const WORDS: usize = 16368;
+
+// A set of horizontal edges, by their numbers.
+pub type EdgeSet = [u64; WORDS];
+
+pub fn contains(set: &EdgeSet, n: usize) -> bool
     requires { ⌜ length (now set) ≡ words ⌝ }
     requires { ⌜ n < places ⌝ }
     ensures { λ r. ⌜ r ≡ has (now (set .entry)) n ⌝ }
@@ -18,7 +24,7 @@ pub fn contains(set: &[u64; 16368], n: usize) -> bool
     (set[word] >> (n % 64)) % 2 == 1
 }
 
-pub fn insert(set: &mut [u64; 16368], n: usize)
+pub fn insert(set: &mut EdgeSet, n: usize)
     requires { ⌜ length (now set) ≡ words ⌝ }
     requires { ⌜ n < places ⌝ }
     ensures { λ r. ⌜ now (set .exit) ≡ with (now (set .entry)) n ⌝ }
@@ -28,7 +34,7 @@ pub fn insert(set: &mut [u64; 16368], n: usize)
 }
 
 // Takes a number out that is in the set.
-pub fn remove(set: &mut [u64; 16368], n: usize)
+pub fn remove(set: &mut EdgeSet, n: usize)
     requires { ⌜ length (now set) ≡ words ⌝ }
     requires { ⌜ n < places ⌝ }
     ensures { λ r. ⌜ now (set .exit) ≡ without (now (set .entry)) n ⌝ }
@@ -75,7 +81,7 @@ fn at_most(n: usize, end: usize) -> usize
 }
 
 // The least number of the set from `from` on and below `end`, or `end` if there is none. The scan stops at the word that holds `end`.
-pub fn next_first(set: &[u64; 16368], from: usize, end: usize) -> usize
+pub fn next_first(set: &EdgeSet, from: usize, end: usize) -> usize
     requires { ⌜ length (now set) ≡ words ⌝ }
     requires { ⌜ from ≤ end ⌝ }
     requires { ⌜ end ≤ places ⌝ }
@@ -101,7 +107,7 @@ pub fn next_first(set: &[u64; 16368], from: usize, end: usize) -> usize
 }
 
 // How many numbers the set has, of which none is `end` or above. The scan stops at the word that holds `end`.
-pub fn contour_count(set: &[u64; 16368], end: usize) -> usize
+pub fn contour_count(set: &EdgeSet, end: usize) -> usize
     requires { ⌜ length (now set) ≡ words ⌝ }
     requires { ⌜ end ≤ places ⌝ }
     requires { ⌜ ((n : ℕ) → end ≤ n → has (now set) n ≡ false) ⌝ }

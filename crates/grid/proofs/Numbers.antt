@@ -1,4 +1,4 @@
--- The numbers of grid edges: each edge in the grid has one below `edges`, and the number tells the edge.
+-- The numbers of grid edges: each edge in the grid has one below `edgeCount`, and the number tells the edge.
 use mathlib.Core.Path.{_≡_, refl, ap, ap₂, sym, _∙_}
 use mathlib.Core.Bool.{Bool, true, false, cond}
 use Prim.Native.Nat.{ℕ, _+_, _-_, _*_, _/_, _%_, _≤_, _<_}
@@ -46,7 +46,7 @@ module _ (size : Size) (sized : Sized size) where
   row-below-height true r h = omega arith
   row-below-height false r h = h
 
-  -- the kinds' numbers fill what is below `edges`, one after the other
+  -- the kinds' numbers fill what is below `edgeCount`, one after the other
   pub edges-split : edgeCount size ≡ kindStart size true + edgeRows size true * edgeColumns size true
   unfolding edgeCount
   edges-split = ap₂ _+_ (mul-comm (size .width - 1) (size .height)) (mul-comm (size .width) (size .height - 1))
@@ -125,7 +125,7 @@ module _ (size : Size) (sized : Sized size) where
   unfolding number
   number-edgeIn v k = ap (λ (m : ℕ). kindStart size v + m) (div-add-mod' k (edgeColumns size v))
 
-  -- and each number below `edges` is that of an edge in the grid
+  -- and each number below `edgeCount` is that of an edge in the grid
   pub edgeAt-within : (n : ℕ) → n < edgeCount size → (inGrid size (edgeAt size n) ≡ true) × (number size (edgeAt size n) ≡ n)
   edgeAt-within n h = elim (decLt n (kindStart size true)) [
     | yes l ↦

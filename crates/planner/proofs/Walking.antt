@@ -1,4 +1,4 @@
--- One contour walked once: the items that are left to write, and what the outputs come to when the walk is back.
+-- One contour walked once: the items that are left to write, and what the outputs hold when the walk is back.
 use mathlib.Core.Path.{_≡_, refl, sym, ap, subst, _∙_}
 use mathlib.Core.Bool.{Bool, true, false}
 use mathlib.Core.List.{List, [], _∷_, foldl}

@@ -1,4 +1,4 @@
--- Items written out one after the other: what room they ask, and what they come to.
+-- Items written out one after the other: what room they need, and what the outputs then hold.
 use mathlib.Core.Path.{_≡_, refl, sym, ap, _∙_}
 use mathlib.Core.List.{List, [], _∷_, _++_, flatten, foldl}
 use Prim.Native.Nat.{ℕ, suc, _+_, _≤_}

@@ -1,6 +1,8 @@
 // The public call: questions 1 to 7 and 14, and the items of all contours.
 use super::item::Reached;
 use super::walk::write_contour;
+use contour::EdgeSet;
+use contour::WORDS;
 use contour::contour_count;
 use contour::next_first;
 use grid::Answer;
@@ -48,7 +50,7 @@ fn write_contours(
     size: Size,
     bitmap: &[u8],
     table: &[u16],
-    set: &[u64; 16368],
+    set: &EdgeSet,
     items: &mut [u8],
     points: &mut [f64],
 ) -> Reached
@@ -76,7 +78,7 @@ fn plan_accepted(
     size: Size,
     bitmap: &[u8],
     table: &[u16],
-    set: &[u64; 16368],
+    set: &EdgeSet,
     items: &mut [u8],
     points: &mut [f64],
 ) -> Planned
@@ -113,7 +115,7 @@ pub fn plan(
         width: w as usize,
         height: h as usize,
     };
-    let mut set: [u64; 16368] = [0; 16368];
+    let mut set: EdgeSet = [0; WORDS];
     let answer = held::ask_held_firsts(size, bitmap, table, &mut set);
     match answer {
         Answer::Yes => plan_accepted(size, bitmap, table, &set, items, points),

@@ -8,14 +8,14 @@ use lib.Dec.{eqb}
 use Rattle.grid.specs.Layer.{Layer}
 use Rattle.grid.specs.Questions.{Sound}
 use Rattle.table.proofs.AllKept.{AllKept}
-use Rattle.smooth.specs.Smooth.{Pass, passed, pass, vertexCount, isSettled, Smoothed, further, until, smooth}
+use Rattle.smooth.specs.Smooth.{Pass, passed, pass, vertexCount, isSettled, mostTotal, Smoothed, further, until, smooth}
 use Rattle.smooth.proofs.Passes.{smooth-is, further-is, until-none, until-settled, until-more, pass-kept}
 use Rattle.smooth.proofs.Sizes.{total-most}
 
 abbrev pub standing : List ℕ → ℕ → ℕ → Bool → Smoothed
 standing t passes total settled = record { table = t; passes = passes; total = total; settled = settled }
 
--- after these passes, the passes that the limit leaves come to the whole
+-- after these passes, the passes that the limit still allows give the result of the whole
 pub record Smoothing (L : Layer) (limit : ℕ) (t₀ t : List ℕ) (passes total : ℕ) (settled : Bool) : Type 0 where
   pub kept : AllKept L t
   pub within : passes ≤ limit
@@ -46,7 +46,7 @@ module _ (L : Layer) (sound : Sound L) (limit : ℕ) (t₀ t : List ℕ) (passes
 
   -- one pass more
   module _ (t′ : List ℕ) (total′ : ℕ) (is : passed t′ total′ ≡ pass L t) where
-    pub smoothing-most : total′ ≤ 532156416
+    pub smoothing-most : total′ ≤ mostTotal
     smoothing-most = omega (arith, ap (λ (p : Pass). p .total) is, total-most L sound t (g .kept))
 
     pub smoothing-turn : passes < limit → settled ≡ false → (settled′ : Bool) → settled′ ≡ isSettled total′ (vertexCount L)

@@ -107,7 +107,7 @@ module _ (L : Layer) (sound : Sound L) where
       visit-change : visit L s e .total + r .total ≡ visit L r e .total + s .total
       visit-change = omega (arith, visit-sum L s e, visit-sum L r e, same-offset a e on, same-smoothed a e on)
 
-    -- a pass over the contour, or a part of it: from tables that agree on the contour it comes to tables that do, by the same changes
+    -- a pass over the contour, or a part of it: from tables that agree on the contour it gives tables that do, by the same changes
     pub passContour-agree : (c : List Edge) → ((e : Edge) → 0 < occurrences (walkOf L) e c → On (walkOf L) f e) → (s r : Pass) → Agree (s .table) (r .table)
         → Agree (passContour L s c .table) (passContour L r c .table) × (passContour L s c .total + r .total ≡ passContour L r c .total + s .total)
     unfolding passContour occurrences

@@ -17,7 +17,7 @@ use Rattle.chord.proofs.EdgePoints.{edge, on→closed, closed→on}
 use Rattle.chord.proofs.Meetings.{crossing, sides→parted, crossing-across, crossing-along, crossing-only, total-some}
 use Rattle.smooth.specs.Offset.{spread, shift, upon, Apart}
 
--- What spread and shift come to, over numbers: the neighbours' coordinates are u and w along, a and b across; the line lies at l, the stick
+-- Spread and shift as natural numbers: the neighbours' coordinates are u and w along, a and b across; the line lies at l, the stick
 -- begins at o, the old offset is k. With the neighbours β and α off the line, the size of the spread is α + β, and the shift over it is the
 -- difference of the mean (α·u + β·w) / (α + β) from o + k
 abbrev Means : (u w a b l o k α β : ℕ) → Type 0

@@ -15,7 +15,7 @@ use Rattle.contour.proofs.Members.{on-one}
 use Rattle.contour.proofs.Sticks.{laws}
 use Rattle.contour.proofs.FirstSets.{Stop, next-stop, stop-stick, set-start, set-turn, set-end}
 use Rattle.table.proofs.AllKept.{AllKept, passes-entries, passes-all-kept}
-use Rattle.smooth.specs.Smooth.{Pass, passed, passContour, pass, Ready}
+use Rattle.smooth.specs.Smooth.{Pass, passed, passContour, pass, mostTotal, Ready}
 use Rattle.smooth.proofs.Walking.{visits-grow}
 use Rattle.smooth.proofs.Passes.{AllSticks, passContour-is, passContour-kept, pass-is}
 use Rattle.smooth.proofs.Sizes.{total-most}
@@ -36,7 +36,7 @@ contours-grow L (c ∷ cs) s =
     omega
     (arith, contours-grow L cs (passContour L s c), visits-grow L c s, ap (λ (p : Pass). p .total) (passContour-is L s c))
 
--- the pass over the contours that begin at edge n or after, from the table t and the total so far, comes to the pass over all of them
+-- the pass over the contours that begin at edge n or after, from the table t and the total so far, gives the pass over all of them
 pub record Passing (L : Layer) (t₀ t : List ℕ) (n total : ℕ) : Type 0 where
   pub stop : Stop L n
   pub kept : AllKept L t
@@ -65,7 +65,7 @@ module _ (L : Layer) (sound : Sound L) (s : List ℕ) (set : FirstSet L s) (t₀
       sticks : AllSticks L sound (contourOf L first)
       sticks e o = on-one (walkOf L) (laws L sound) first e passing-stick o
 
-      pub passing-most : passContour L (passed t total) (contourOf L (edgeAt (L .size) n)) .total ≤ 532156416
+      pub passing-most : passContour L (passed t total) (contourOf L (edgeAt (L .size) n)) .total ≤ mostTotal
       passing-most =
           let after : ℕ = nextIn s (n + 1) (kindStart (L .size) true) in
           let later = set-turn L sound s set (passContour L) (passed t total) (pass L t₀) n after (g .stop) less refl (g .left) in

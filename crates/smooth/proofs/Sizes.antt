@@ -8,11 +8,11 @@ use Rattle.grid.specs.Edges.{edgeCount, stickAt}
 use Rattle.grid.specs.Questions.{Sound}
 use Rattle.grid.proofs.Numbers.{edges-small}
 use Rattle.table.proofs.AllKept.{AllKept}
-use Rattle.smooth.specs.Smooth.{pass, vertexCount}
+use Rattle.smooth.specs.Smooth.{pass, vertexCount, mostVertices, mostTotal}
 use Rattle.smooth.proofs.Passes.{pass-total}
 
-pub vertices-most : (L : Layer) → Sound L → vertexCount L ≤ 2095104
+pub vertices-most : (L : Layer) → Sound L → vertexCount L ≤ mostVertices
 vertices-most L sound = omega (arith, count-le (stickAt L) (edgeCount (L .size)), edges-small (L .size) (sound .whole .sized))
 
-pub total-most : (L : Layer) → Sound L → (t : List ℕ) → AllKept L t → pass L t .total ≤ 532156416
+pub total-most : (L : Layer) → Sound L → (t : List ℕ) → AllKept L t → pass L t .total ≤ mostTotal
 total-most L sound t kept = omega (arith, pass-total L sound t kept, vertices-most L sound)

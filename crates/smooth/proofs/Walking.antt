@@ -58,7 +58,7 @@ module _ (L : Layer) (sound : Sound L) (x f : Edge) (one : isStick L x ≡ true)
   pub other-number : number (L .size) x ≢ number (L .size) f → sameEdge x f ≡ false
   other-number n = both-sides (sameEdge x f) (λ y. absurd (n (ap (number (L .size)) (laws L sound .same-eq x f y)))) (λ y. y)
 
--- the walk stands at e, its entry at `at`: what is left of the contour of f, from here, comes to `whole`
+-- the walk stands at e, its entry at `at`: folding over what is left of the contour of f, from here, gives `whole`
 pub record Going (L : Layer) (f : Edge) (whole : Pass) (t : List ℕ) (e : Edge) (at : ℕ) (p : Position) (n : ℕ) : Type 0 where
   pub due : Due (walkOf L) f e
   pub kept : AllKept L t

@@ -25,7 +25,7 @@ use Rattle.smooth.specs.Offset.{newOffset}
 abbrev pub smoothedAt : Layer → List ℕ → Edge → ℕ
 smoothedAt L t e = newOffset (vertex L t (prev L e)) (vertex L t (next L e)) e (offsetAt L t e)
 
--- what a pass has come to: the table, and "the sum of the absolute changes"
+-- the result of a pass: the table, and "the sum of the absolute changes"
 pub record Pass : Type 0 where
   pub table : List ℕ
   pub total : ℕ
@@ -54,6 +54,13 @@ pass L t = foldl (passContour L) (record { table = t; total = 0 }) (contoursOf L
 -- the number of vertices: each stick carries one
 abbrev pub vertexCount : Layer → ℕ
 vertexCount L = stickCount L
+
+-- how many vertices a layer of 1,024 × 1,024 has at most, and the largest total of a pass: an offset changes by 254 at most
+abbrev pub mostVertices : ℕ
+mostVertices = 2095104
+
+abbrev pub mostTotal : ℕ
+mostTotal = 254 * mostVertices
 
 -- "Smoothing is settled after a pass with 1000×total < 256×vertices, taken over the layer"
 unfoldable pub isSettled : ℕ → ℕ → Bool

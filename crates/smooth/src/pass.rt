@@ -2,6 +2,7 @@
 use super::offset::new_offset;
 use chord::Position;
 use chord::position_of;
+use contour::EdgeSet;
 use contour::next_first;
 use grid::Edge;
 use grid::Size;
@@ -22,9 +23,9 @@ ghost use Rattle.contour.specs.Sets.{FirstSet};
 ghost use Rattle.chord.specs.Crossing.{distance};
 ghost use Rattle.chord.specs.Runs.{Near, NearEdge};
 ghost use Rattle.smooth.specs.Offset.{newOffset, Around};
-ghost use Rattle.smooth.specs.Smooth.{passed, passContour, pass, Ready};
+ghost use Rattle.smooth.specs.Smooth.{passed, passContour, pass, mostTotal, Ready};
 
-// What a step came to: the new offset, and the absolute change.
+// The result of a step: the new offset, and the absolute change.
 struct Moved {
     offset: u8,
     change: usize,
@@ -68,12 +69,12 @@ fn visit(table: &mut [u16], at: usize, e: Edge, p: Position, q: Position) -> Mov
     }
 }
 
-// A pass over the contour that starts at `first`, from the total that the pass has come to. The previous vertex's position, the stick and
+// A pass over the contour that starts at `first`, from the total of the pass so far. The previous vertex's position, the stick and
 // the number of its entry go along, so that a vertex costs one step of the walk.
 fn pass_contour(size: Size, bitmap: &[u8], table: &mut [u16], first: Edge, total: usize) -> usize
     requires { ⌜ Ready (layerOf size (now bitmap)) (now table) ⌝ }
     requires { ⌜ isStick (layerOf size (now bitmap)) first ≡ true ⌝ }
-    requires { ⌜ passContour (layerOf size (now bitmap)) (passed (now table) total) (contourOf (layerOf size (now bitmap)) first) .total ≤ 532156416 ⌝ }
+    requires { ⌜ passContour (layerOf size (now bitmap)) (passed (now table) total) (contourOf (layerOf size (now bitmap)) first) .total ≤ mostTotal ⌝ }
     ensures { λ r. ⌜ passed (now (table .exit)) r ≡ passContour (layerOf size (now (bitmap .entry))) (passed (now (table .entry)) total) (contourOf (layerOf size (now (bitmap .entry))) first) ⌝ }
 {
     let start = number_of(size, first);
@@ -98,7 +99,7 @@ fn pass_contour(size: Size, bitmap: &[u8], table: &mut [u16], first: Edge, total
 }
 
 // A pass over all contours, by the set of first sticks. Its total.
-pub fn pass_layer(size: Size, bitmap: &[u8], table: &mut [u16], set: &[u64; 16368]) -> usize
+pub fn pass_layer(size: Size, bitmap: &[u8], table: &mut [u16], set: &EdgeSet) -> usize
     requires { ⌜ Ready (layerOf size (now bitmap)) (now table) ⌝ }
     requires { ⌜ FirstSet (layerOf size (now bitmap)) (now set) ⌝ }
     ensures { λ r. ⌜ passed (now (table .exit)) r ≡ pass (layerOf size (now (bitmap .entry))) (now (table .entry)) ⌝ }

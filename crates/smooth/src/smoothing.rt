@@ -1,5 +1,7 @@
 // The public call Smooth.
 use super::pass::pass_layer;
+use contour::EdgeSet;
+use contour::WORDS;
 use grid::Answer;
 use grid::Refusal;
 use grid::Size;
@@ -8,7 +10,7 @@ ghost use mathlib.Core.Path.{_≡_};
 ghost use Prim.Native.Nat.{_≤_};
 ghost use Rattle.grid.specs.Layer.{layerOf, sizeOf};
 ghost use Rattle.contour.specs.Sets.{FirstSet};
-ghost use Rattle.smooth.specs.Smooth.{vertexCount, isSettled, smooth, Ready};
+ghost use Rattle.smooth.specs.Smooth.{vertexCount, isSettled, mostVertices, mostTotal, smooth, Ready};
 ghost use Rattle.smooth.specs.Call.{doneWith, smoothOf, outcome};
 
 // Smooth's answer: the passes made, the total of the last one and whether smoothing is settled, or refused with the question and its place.
@@ -23,8 +25,8 @@ pub enum Smoothing {
 
 // Whether smoothing is settled after a pass with this total.
 fn is_settled(total: usize, vertices: usize) -> bool
-    requires { ⌜ total ≤ 532156416 ⌝ }
-    requires { ⌜ vertices ≤ 2095104 ⌝ }
+    requires { ⌜ total ≤ mostTotal ⌝ }
+    requires { ⌜ vertices ≤ mostVertices ⌝ }
     ensures { λ r. ⌜ r ≡ isSettled total vertices ⌝ }
 {
     1000 * total < 256 * vertices
@@ -35,7 +37,7 @@ fn smooth_until(
     size: Size,
     bitmap: &[u8],
     table: &mut [u16],
-    set: &[u64; 16368],
+    set: &EdgeSet,
     vertices: usize,
     limit: usize,
 ) -> Smoothing
@@ -71,7 +73,7 @@ pub fn smooth(w: u16, h: u16, bitmap: &[u8], table: &mut [u16], limit: u16) -> S
         width: w as usize,
         height: h as usize,
     };
-    let mut set: [u64; 16368] = [0; 16368];
+    let mut set: EdgeSet = [0; WORDS];
     let answer = held::ask_kept_firsts(size, bitmap, table, &mut set);
     match answer {
         Answer::Yes => {

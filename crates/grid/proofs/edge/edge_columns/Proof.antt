@@ -1,4 +1,4 @@
--- `columns_of` meets its contract.
+-- `edge_columns` meets its contract.
 use borrow.Author.Needs.{needs}
 use Rattle.grid.proofs.edge.edge_columns.Statement.{statement}
 use Rattle.grid.proofs.edge.edge_columns.Tie as tie

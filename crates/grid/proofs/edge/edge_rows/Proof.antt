@@ -1,4 +1,4 @@
--- `rows_of` meets its contract.
+-- `edge_rows` meets its contract.
 use borrow.Author.Needs.{needs}
 use Rattle.grid.proofs.edge.edge_rows.Statement.{statement}
 use Rattle.grid.proofs.edge.edge_rows.Tie as tie
