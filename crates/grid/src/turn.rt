@@ -1,6 +1,6 @@
-// The stick by which a cell is left, from the stick by which it is entered, with inside on the left, as a contour is walked, or on the right,
-// as it is walked back. So the two corners at that stick are known. Ahead, the corner on the outer side matters only if the one on the inner
-// side is inside. Each case looks up a pattern that is a constant.
+// The stick by which a cell is left that is entered by a stick, with inside on the left, as a contour is walked, or on the right, as it is
+// walked back. The two corners at that stick are known from the direction, the two across the cell are asked. Each case looks up the cell's
+// own pattern, which is a constant there, so that the compiler folds the look.
 use super::cell::CellSide;
 use super::cell::Side;
 use super::cell::edge_of;
@@ -9,23 +9,24 @@ use super::edge::Edge;
 use super::layer::Size;
 use super::layer::is_inside;
 ghost use mathlib.Core.Path.{_≡_};
-ghost use Prim.Native.Nat.{_<_};
+ghost use Prim.Native.Nat.{_+_, _*_, _<_};
+ghost use Rattle.arith.specs.Booleans.{asNumber};
 ghost use Rattle.grid.specs.Layer.{layerOf};
 ghost use Rattle.grid.specs.Cells.{linkedIn, edgeOn};
 ghost use Rattle.grid.specs.Turns.{Entered, leaving};
 ghost use Rattle.grid.specs.declared.cell.Side.the-variants.{South, East, North, West};
 
 // What a corner that is inside counts in the number of a pattern.
-const SW: usize = 1;
+pub const SW: usize = 1;
 
-const SE: usize = 2;
+pub const SE: usize = 2;
 
-const NW: usize = 4;
+pub const NW: usize = 4;
 
-const NE: usize = 8;
+pub const NE: usize = 8;
 
 // The edge that is linked to a side of a cell with this pattern.
-fn leave(column: usize, row: usize, pattern: usize, side: Side) -> Edge
+fn leave(column: usize, row: usize, side: Side, pattern: usize) -> Edge
     requires { ⌜ column < 1024 ⌝ }
     requires { ⌜ row < 1024 ⌝ }
     requires { ⌜ pattern < 16 ⌝ }
@@ -38,94 +39,71 @@ fn leave(column: usize, row: usize, pattern: usize, side: Side) -> Edge
     })
 }
 
-// To the north: sw is on the left, se on the right.
-pub fn from_south(size: Size, bitmap: &[u8], column: usize, row: usize, left: bool) -> Edge
-    requires { ⌜ Entered (layerOf size (now bitmap)) column row South left ⌝ }
+// The same of a cell whose corners at the side count `near` in the pattern, and those across it `a` and `b`, the first and the second if it is
+// inside.
+fn leave_by(
+    column: usize,
+    row: usize,
+    side: Side,
+    near: usize,
+    a: usize,
+    first: bool,
+    b: usize,
+    second: bool,
+) -> Edge
+    requires { ⌜ column < 1024 ⌝ }
+    requires { ⌜ row < 1024 ⌝ }
+    requires { ⌜ near + a + b < 16 ⌝ }
+    ensures { λ r. ⌜ r ≡ edgeOn column row (linkedIn (near + a * asNumber first + b * asNumber second) side) ⌝ }
+{
+    if first {
+        if second {
+            return leave(column, row, side, near + a + b);
+        }
+        return leave(column, row, side, near + a);
+    }
+    if second {
+        return leave(column, row, side, near + b);
+    }
+    leave(column, row, side, near)
+}
+
+// To the north.
+pub fn from_south(size: Size, bitmap: &[u8], column: usize, row: usize, near: usize) -> Edge
+    requires { ⌜ Entered (layerOf size (now bitmap)) column row South near ⌝ }
     ensures { λ r. ⌜ r ≡ leaving (layerOf size (now (bitmap .entry))) column row South ⌝ }
 {
-    if left {
-        if !is_inside(size, bitmap, column, row + 1) {
-            return leave(column, row, SW, Side::South);
-        }
-        if is_inside(size, bitmap, column + 1, row + 1) {
-            return leave(column, row, SW + NW + NE, Side::South);
-        }
-        return leave(column, row, SW + NW, Side::South);
-    }
-    if !is_inside(size, bitmap, column + 1, row + 1) {
-        return leave(column, row, SE, Side::South);
-    }
-    if is_inside(size, bitmap, column, row + 1) {
-        return leave(column, row, SE + NW + NE, Side::South);
-    }
-    leave(column, row, SE + NE, Side::South)
+    let nw = is_inside(size, bitmap, column, row + 1);
+    let ne = is_inside(size, bitmap, column + 1, row + 1);
+    leave_by(column, row, Side::South, near, NW, nw, NE, ne)
 }
 
-// To the west: se is on the left, ne on the right.
-pub fn from_east(size: Size, bitmap: &[u8], column: usize, row: usize, left: bool) -> Edge
-    requires { ⌜ Entered (layerOf size (now bitmap)) column row East left ⌝ }
+// To the west.
+pub fn from_east(size: Size, bitmap: &[u8], column: usize, row: usize, near: usize) -> Edge
+    requires { ⌜ Entered (layerOf size (now bitmap)) column row East near ⌝ }
     ensures { λ r. ⌜ r ≡ leaving (layerOf size (now (bitmap .entry))) column row East ⌝ }
 {
-    if left {
-        if !is_inside(size, bitmap, column, row) {
-            return leave(column, row, SE, Side::East);
-        }
-        if is_inside(size, bitmap, column, row + 1) {
-            return leave(column, row, SE + SW + NW, Side::East);
-        }
-        return leave(column, row, SE + SW, Side::East);
-    }
-    if !is_inside(size, bitmap, column, row + 1) {
-        return leave(column, row, NE, Side::East);
-    }
-    if is_inside(size, bitmap, column, row) {
-        return leave(column, row, NE + SW + NW, Side::East);
-    }
-    leave(column, row, NE + NW, Side::East)
+    let sw = is_inside(size, bitmap, column, row);
+    let nw = is_inside(size, bitmap, column, row + 1);
+    leave_by(column, row, Side::East, near, SW, sw, NW, nw)
 }
 
-// To the south: ne is on the left, nw on the right.
-pub fn from_north(size: Size, bitmap: &[u8], column: usize, row: usize, left: bool) -> Edge
-    requires { ⌜ Entered (layerOf size (now bitmap)) column row North left ⌝ }
+// To the south.
+pub fn from_north(size: Size, bitmap: &[u8], column: usize, row: usize, near: usize) -> Edge
+    requires { ⌜ Entered (layerOf size (now bitmap)) column row North near ⌝ }
     ensures { λ r. ⌜ r ≡ leaving (layerOf size (now (bitmap .entry))) column row North ⌝ }
 {
-    if left {
-        if !is_inside(size, bitmap, column + 1, row) {
-            return leave(column, row, NE, Side::North);
-        }
-        if is_inside(size, bitmap, column, row) {
-            return leave(column, row, NE + SE + SW, Side::North);
-        }
-        return leave(column, row, NE + SE, Side::North);
-    }
-    if !is_inside(size, bitmap, column, row) {
-        return leave(column, row, NW, Side::North);
-    }
-    if is_inside(size, bitmap, column + 1, row) {
-        return leave(column, row, NW + SE + SW, Side::North);
-    }
-    leave(column, row, NW + SW, Side::North)
+    let sw = is_inside(size, bitmap, column, row);
+    let se = is_inside(size, bitmap, column + 1, row);
+    leave_by(column, row, Side::North, near, SW, sw, SE, se)
 }
 
-// To the east: nw is on the left, sw on the right.
-pub fn from_west(size: Size, bitmap: &[u8], column: usize, row: usize, left: bool) -> Edge
-    requires { ⌜ Entered (layerOf size (now bitmap)) column row West left ⌝ }
+// To the east.
+pub fn from_west(size: Size, bitmap: &[u8], column: usize, row: usize, near: usize) -> Edge
+    requires { ⌜ Entered (layerOf size (now bitmap)) column row West near ⌝ }
     ensures { λ r. ⌜ r ≡ leaving (layerOf size (now (bitmap .entry))) column row West ⌝ }
 {
-    if left {
-        if !is_inside(size, bitmap, column + 1, row + 1) {
-            return leave(column, row, NW, Side::West);
-        }
-        if is_inside(size, bitmap, column + 1, row) {
-            return leave(column, row, NW + NE + SE, Side::West);
-        }
-        return leave(column, row, NW + NE, Side::West);
-    }
-    if !is_inside(size, bitmap, column + 1, row) {
-        return leave(column, row, SW, Side::West);
-    }
-    if is_inside(size, bitmap, column + 1, row + 1) {
-        return leave(column, row, SW + NE + SE, Side::West);
-    }
-    leave(column, row, SW + SE, Side::West)
+    let se = is_inside(size, bitmap, column + 1, row);
+    let ne = is_inside(size, bitmap, column + 1, row + 1);
+    leave_by(column, row, Side::West, near, SE, se, NE, ne)
 }

@@ -2,6 +2,10 @@
 use super::edge::Edge;
 use super::layer::Size;
 use super::layer::is_inside;
+use super::turn::NE;
+use super::turn::NW;
+use super::turn::SE;
+use super::turn::SW;
 use super::turn::from_east;
 use super::turn::from_north;
 use super::turn::from_south;
@@ -23,7 +27,8 @@ fn is_upward(size: Size, bitmap: &[u8], e: Edge) -> bool
     if e.vertical { !inside } else { inside }
 }
 
-// The successor of a stick on its contour: where the contour leaves the cell ahead.
+// The successor of a stick on its contour: where the contour leaves the cell ahead. The inside corner at the stick is the one on
+// the left.
 pub fn next_stick(size: Size, bitmap: &[u8], e: Edge) -> Edge
     requires { ⌜ Sound (layerOf size (now bitmap)) ⌝ }
     requires { ⌜ isStick (layerOf size (now bitmap)) e ≡ true ⌝ }
@@ -34,20 +39,21 @@ pub fn next_stick(size: Size, bitmap: &[u8], e: Edge) -> Edge
     let row = e.row;
     if e.vertical {
         if upper {
-            from_west(size, bitmap, column, row, true)
+            from_west(size, bitmap, column, row, NW)
         } else {
-            from_east(size, bitmap, column - 1, row, true)
+            from_east(size, bitmap, column - 1, row, SE)
         }
     } else {
         if upper {
-            from_south(size, bitmap, column, row, true)
+            from_south(size, bitmap, column, row, SW)
         } else {
-            from_north(size, bitmap, column, row - 1, true)
+            from_north(size, bitmap, column, row - 1, NE)
         }
     }
 }
 
-// The predecessor of a stick on its contour: where the contour walked back leaves the cell behind.
+// The predecessor of a stick on its contour: where the contour walked back leaves the cell behind. The inside corner at the
+// stick is the one on the right.
 pub fn previous_stick(size: Size, bitmap: &[u8], e: Edge) -> Edge
     requires { ⌜ Sound (layerOf size (now bitmap)) ⌝ }
     requires { ⌜ isStick (layerOf size (now bitmap)) e ≡ true ⌝ }
@@ -58,15 +64,15 @@ pub fn previous_stick(size: Size, bitmap: &[u8], e: Edge) -> Edge
     let row = e.row;
     if e.vertical {
         if upper {
-            from_east(size, bitmap, column - 1, row, false)
+            from_east(size, bitmap, column - 1, row, NE)
         } else {
-            from_west(size, bitmap, column, row, false)
+            from_west(size, bitmap, column, row, SW)
         }
     } else {
         if upper {
-            from_north(size, bitmap, column, row - 1, false)
+            from_north(size, bitmap, column, row - 1, NW)
         } else {
-            from_south(size, bitmap, column, row, false)
+            from_south(size, bitmap, column, row, SE)
         }
     }
 }
