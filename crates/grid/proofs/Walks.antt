@@ -29,7 +29,7 @@ pub record InGrid (L : Layer) (p : CellSide) : Type 0 where
 
 -- the cell is entered by this side, with inside on the left or not, and left at stick f
 pub record Crosses (L : Layer) (p : CellSide) (inside : Bool) (f : Edge) : Type 0 where
-  pub enters : Entered L (p .column) (p .row) (p .side) (nearBy inside (p .side))
+  pub enters : Entered L (p .column) (p .row) (p .side) inside
   pub leaves : leaving L (p .column) (p .row) (p .side) ≡ f
 
 -- the cell lies on the upper side of its south and its west side

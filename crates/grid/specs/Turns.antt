@@ -11,7 +11,7 @@ use Rattle.grid.specs.declared.edge.Edge.{Edge}
 use Rattle.grid.specs.declared.cell.Side.{Side}
 use Rattle.grid.specs.declared.cell.Side.the-variants.{South, East, North, West}
 
--- the corner on the left at the side of entry
+-- the corner on the left, seen from the side of entry
 abbrev pub left : Corners → Side → Bool
 left k South = k .sw
 left k East = k .se
@@ -25,19 +25,19 @@ near k East = 2 * asNumber (k .se) + 8 * asNumber (k .ne)
 near k North = 4 * asNumber (k .nw) + 8 * asNumber (k .ne)
 near k West = asNumber (k .sw) + 4 * asNumber (k .nw)
 
--- the same at a stick, where one of them is inside: the one on the left, or the one on the right
+-- the same at a stick, where one of the two is inside: the one on the left, or the one on the right
 abbrev pub nearBy : Bool → Side → ℕ
 nearBy inside South = cond inside 1 2
 nearBy inside East = cond inside 2 8
 nearBy inside North = cond inside 8 4
 nearBy inside West = cond inside 4 1
 
--- a cell in the grid that is entered by a side whose corners count n
-pub record Entered (L : Layer) (c r : ℕ) (s : Side) (n : ℕ) : Type 0 where
+-- a cell in the grid that is entered by a stick, with inside on the left or on the right
+pub record Entered (L : Layer) (c r : ℕ) (s : Side) (inside : Bool) : Type 0 where
   pub whole : Whole L
   pub column-inner : c + 1 < L .size .width
   pub row-inner : r + 1 < L .size .height
-  pub counted : near (corners L c r) s ≡ n
+  pub counted : near (corners L c r) s ≡ nearBy inside s
 
 -- the edge by which it is left
 abbrev pub leaving : Layer → ℕ → ℕ → Side → Edge

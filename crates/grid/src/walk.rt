@@ -2,10 +2,6 @@
 use super::edge::Edge;
 use super::layer::Size;
 use super::layer::is_inside;
-use super::turn::NE;
-use super::turn::NW;
-use super::turn::SE;
-use super::turn::SW;
 use super::turn::from_east;
 use super::turn::from_north;
 use super::turn::from_south;
@@ -27,8 +23,7 @@ fn is_upward(size: Size, bitmap: &[u8], e: Edge) -> bool
     if e.vertical { !inside } else { inside }
 }
 
-// The successor of a stick on its contour: where the contour leaves the cell ahead. The inside corner at the stick is the one on
-// the left.
+// The successor of a stick on its contour: where the contour leaves the cell ahead.
 pub fn next_stick(size: Size, bitmap: &[u8], e: Edge) -> Edge
     requires { ⌜ Sound (layerOf size (now bitmap)) ⌝ }
     requires { ⌜ isStick (layerOf size (now bitmap)) e ≡ true ⌝ }
@@ -39,21 +34,20 @@ pub fn next_stick(size: Size, bitmap: &[u8], e: Edge) -> Edge
     let row = e.row;
     if e.vertical {
         if upper {
-            from_west(size, bitmap, column, row, NW)
+            from_west(size, bitmap, column, row, true)
         } else {
-            from_east(size, bitmap, column - 1, row, SE)
+            from_east(size, bitmap, column - 1, row, true)
         }
     } else {
         if upper {
-            from_south(size, bitmap, column, row, SW)
+            from_south(size, bitmap, column, row, true)
         } else {
-            from_north(size, bitmap, column, row - 1, NE)
+            from_north(size, bitmap, column, row - 1, true)
         }
     }
 }
 
-// The predecessor of a stick on its contour: where the contour walked back leaves the cell behind. The inside corner at the
-// stick is the one on the right.
+// The predecessor of a stick on its contour: where the contour walked back leaves the cell behind.
 pub fn previous_stick(size: Size, bitmap: &[u8], e: Edge) -> Edge
     requires { ⌜ Sound (layerOf size (now bitmap)) ⌝ }
     requires { ⌜ isStick (layerOf size (now bitmap)) e ≡ true ⌝ }
@@ -64,15 +58,15 @@ pub fn previous_stick(size: Size, bitmap: &[u8], e: Edge) -> Edge
     let row = e.row;
     if e.vertical {
         if upper {
-            from_east(size, bitmap, column - 1, row, NE)
+            from_east(size, bitmap, column - 1, row, false)
         } else {
-            from_west(size, bitmap, column, row, SW)
+            from_west(size, bitmap, column, row, false)
         }
     } else {
         if upper {
-            from_north(size, bitmap, column, row - 1, NW)
+            from_north(size, bitmap, column, row - 1, false)
         } else {
-            from_south(size, bitmap, column, row, SE)
+            from_south(size, bitmap, column, row, false)
         }
     }
 }
