@@ -6,7 +6,7 @@ use native.Mathlib.Omega.{arith}
 use lib.Dec.{T, eqb, eqb→eq}
 use Rattle.arith.specs.Booleans.{all, at-all, and-T, beq→eq, implied}
 use Rattle.grid.specs.Cells.{Corners, cut, diagonal, atInsideEnd, partner, sideIndex, sideAt, linkedTo}
-use Rattle.grid.specs.Turns.{left, turn}
+use Rattle.grid.specs.Turns.{left, near, nearBy}
 use Rattle.grid.specs.declared.cell.Side.{Side}
 use Rattle.grid.specs.declared.cell.Side.the-variants.{South, East, North, West}
 
@@ -84,13 +84,13 @@ partner-turns k s h =
     (implied (cut k s) (Bool·beq (left k (partner k s)) (not (left k s)))
     (at (λ k s. not (cut k s) || Bool·beq (left k (partner k s)) (not (left k s))) tt k s) h)
 
--- the rule as turning left, right or neither
-pub partner-turn : (k : Corners) (s : Side) → cut k s ≡ true → partner k s ≡ turn (left k s) k s
+-- of the corners at a stick one is inside, so that what they count tells which
+pub near-stick : (k : Corners) (s : Side) → cut k s ≡ true → near k s ≡ nearBy (left k s) s
 unfolding xor
-partner-turn k s h =
-    same-side (partner k s) (turn (left k s) k s)
-    (implied (cut k s) (sameSide (partner k s) (turn (left k s) k s))
-    (at (λ k s. not (cut k s) || sameSide (partner k s) (turn (left k s) k s)) tt k s) h)
+near-stick k s h =
+    eqb→eq (near k s) (nearBy (left k s) s)
+    (implied (cut k s) (eqb (near k s) (nearBy (left k s) s))
+    (at (λ k s. not (cut k s) || eqb (near k s) (nearBy (left k s) s)) tt k s) h)
 
 -- a side's number is that of its two bits in an entry of the table
 pub sideIndex-below : (s : Side) → sideIndex s < 4

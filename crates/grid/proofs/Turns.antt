@@ -1,31 +1,55 @@
--- Where a cell is left that is entered by a stick, in the three cases that turn.rt tells apart by asking the corners ahead.
-use mathlib.Core.Path.{_≡_, ap, sym, _∙_}
-use mathlib.Core.Bool.{Bool, true, false, not}
-use Prim.Native.Nat.{ℕ}
-use borrow.Author.Tests.{not-true, not-false}
+-- Where a cell is left that is entered by a side, from the number of its pattern: by the constant table, whose rule is `links-rule`.
+use mathlib.Core.Path.{_≡_, ap, _∙_}
+use mathlib.Core.Bool.{Bool}
+use Prim.Native.Nat.{ℕ, _+_, _*_}
+use native.Mathlib.Omega.{arith}
+use Rattle.arith.specs.Booleans.{asNumber}
 use Rattle.grid.specs.Layer.{Layer}
-use Rattle.grid.specs.Cells.{corners, edgeOn}
-use Rattle.grid.specs.Turns.{innerAhead, outerAhead, innerOf, outerOf, opposite, turn, Entered, leaving}
+use Rattle.grid.specs.Cells.{Corners, corners, index, linkedIn, edgeOn}
+use Rattle.grid.specs.Turns.{near, nearBy, Entered, leaving}
 use Rattle.grid.specs.declared.cell.Side.{Side}
-use Rattle.grid.proofs.Links.{partner-turn}
+use Rattle.grid.specs.declared.cell.Side.the-variants.{South, East, North, West}
+use Rattle.grid.proofs.Links.{links-rule}
 
--- for who has inside on the left or not: the answers a and b for the corners ahead on the inner and on the outer side, and the edge
-pub record Turning (L : Layer) (c r : ℕ) (s : Side) (inside : Bool) : Type 0 where
-  pub inner : (hand : Bool) → inside ≡ hand → (a : Bool) → a ≡ innerAhead hand (corners L c r) s → not a ≡ true
-      → edgeOn c r (innerOf hand s) ≡ leaving L c r s
-  pub outer : (hand : Bool) → inside ≡ hand → (a : Bool) → a ≡ innerAhead hand (corners L c r) s → not a ≡ false
-      → (b : Bool) → b ≡ outerAhead hand (corners L c r) s → b ≡ true → edgeOn c r (outerOf hand s) ≡ leaving L c r s
-  pub straight : (hand : Bool) → inside ≡ hand → (a : Bool) → a ≡ innerAhead hand (corners L c r) s → not a ≡ false
-      → (b : Bool) → b ≡ outerAhead hand (corners L c r) s → b ≡ false → edgeOn c r (opposite s) ≡ leaving L c r s
+-- the two corners across the cell from a side, and what each counts in the number of the pattern
+abbrev pub acrossFirst : Corners → Side → Bool
+acrossFirst k South = k .nw
+acrossFirst k East = k .sw
+acrossFirst k North = k .sw
+acrossFirst k West = k .se
 
-pub turning : (L : Layer) (c r : ℕ) (s : Side) (inside : Bool) → Entered L c r s inside → Turning L c r s inside
-turning L c r s inside h = record {
-  inner = λ hand e a is no. rw (sym is ∙ not-true a no) at (turns hand e);
-  outer = λ hand e a is no b is′ yes. rw (sym is ∙ not-false a no, sym is′ ∙ yes) at (turns hand e);
-  straight = λ hand e a is no b is′ yes. rw (sym is ∙ not-false a no, sym is′ ∙ yes) at (turns hand e);
-}
-  where
-    turns : (hand : Bool) → inside ≡ hand → edgeOn c r (turn hand (corners L c r) s) ≡ leaving L c r s
-    turns hand e =
-        ap (λ (b : Bool). edgeOn c r (turn b (corners L c r) s)) (sym (h .on-left ∙ e))
-        ∙ sym (ap (edgeOn c r) (partner-turn (corners L c r) s (h .stick)))
+abbrev pub acrossSecond : Corners → Side → Bool
+acrossSecond k South = k .ne
+acrossSecond k East = k .nw
+acrossSecond k North = k .se
+acrossSecond k West = k .ne
+
+abbrev pub firstCounts : Side → ℕ
+firstCounts South = 4
+firstCounts East = 1
+firstCounts North = 1
+firstCounts West = 2
+
+abbrev pub secondCounts : Side → ℕ
+secondCounts South = 8
+secondCounts East = 4
+secondCounts North = 2
+secondCounts West = 8
+
+index-near : (k : Corners) (s : Side)
+    → near k s + firstCounts s * asNumber (acrossFirst k s) + secondCounts s * asNumber (acrossSecond k s) ≡ index k
+index-near k South = omega arith
+index-near k East = omega arith
+index-near k North = omega arith
+index-near k West = omega arith
+
+-- The number looked up in a case, for the corners known there, is that of the cell's own pattern, and the table gives the side by which the
+-- cell is left.
+pub by-table : (L : Layer) (c r : ℕ) (s : Side) (inside : Bool) → Entered L c r s inside → (hand a b : Bool) → inside ≡ hand
+    → acrossFirst (corners L c r) s ≡ a → acrossSecond (corners L c r) s ≡ b
+    → edgeOn c r (linkedIn (nearBy hand s + firstCounts s * asNumber a + secondCounts s * asNumber b) s) ≡ leaving L c r s
+by-table L c r s inside entered hand a b is-hand first second =
+    let k = corners L c r in
+    ap (λ (m : ℕ). edgeOn c r (linkedIn m s))
+    (rw (entered .counted ∙ ap (λ (h : Bool). nearBy h s) is-hand, first, second) at (index-near k s))
+    ∙ ap (edgeOn c r) (links-rule k s)

@@ -13,14 +13,14 @@ use Rattle.grid.specs.Edges.{isStick, inGrid, firstEnd, secondEnd}
 use Rattle.grid.specs.Cells.{corners, cut, partner, link, edgeOf}
 use Rattle.grid.specs.Walk.{upward, beside, ahead, behind, next, prev}
 use Rattle.grid.specs.Questions.{Sound, onBorder}
-use Rattle.grid.specs.Turns.{left, Entered, leaving}
+use Rattle.grid.specs.Turns.{left, near, nearBy, Entered, leaving}
 use Rattle.grid.specs.declared.edge.Edge.{Edge}
 use Rattle.grid.specs.declared.cell.CellSide.{CellSide}
 use Rattle.grid.specs.declared.cell.Side.{Side}
 use Rattle.grid.specs.declared.cell.Side.the-variants.{South, East, North, West}
 use Rattle.grid.proofs.Borders.{west, east, bottom, top}
 use Rattle.grid.proofs.Numbers.{Within, within, in-grid}
-use Rattle.grid.proofs.Links.{sameSide, partner-partner, partner-cut, partner-other, partner-turns}
+use Rattle.grid.proofs.Links.{sameSide, partner-partner, partner-cut, partner-other, partner-turns, near-stick}
 
 -- a cell whose four samples are in the grid
 pub record InGrid (L : Layer) (p : CellSide) : Type 0 where
@@ -206,8 +206,9 @@ module _ (L : Layer) (sound : Sound L) where
         whole = sound .whole;
         column-inner = here-in .column-inner;
         row-inner = here-in .row-inner;
-        stick = here-cut;
-        on-left = left-is (e .vertical) (e .column) (e .row) stick upper;
+        counted =
+            near-stick (corners L (here .column) (here .row)) (here .side) here-cut
+            ∙ ap (λ (b : Bool). nearBy b (here .side)) (left-is (e .vertical) (e .column) (e .row) stick upper);
       };
       leaves = refl;
     }

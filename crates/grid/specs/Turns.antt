@@ -1,79 +1,43 @@
--- A cell as one meets it who walks along a contour, or back: the corners and sides that are ahead, left and right when it is entered by a
--- side. The rule is `partner`; what is said here of turning is shown to be the same (proofs/Links.antt: `partner-turn`).
+-- A cell that is entered by one of its sides, along a contour or back: what is known of its pattern from that side, and the edge by which it is
+-- left. The rule is `partner` (Cells.antt).
 use mathlib.Core.Path.{_≡_}
-use mathlib.Core.Bool.{Bool, true, false, cond}
-use Prim.Native.Nat.{ℕ, _+_, _<_}
+use mathlib.Core.Bool.{Bool, cond}
+use Prim.Native.Nat.{ℕ, _+_, _*_, _<_}
+use Rattle.arith.specs.Booleans.{asNumber}
 use Rattle.grid.specs.Layer.{Layer}
-use Rattle.grid.specs.Cells.{Corners, corners, cut, partner, edgeOn}
+use Rattle.grid.specs.Cells.{Corners, corners, partner, edgeOn}
 use Rattle.grid.specs.Questions.{Whole}
 use Rattle.grid.specs.declared.edge.Edge.{Edge}
 use Rattle.grid.specs.declared.cell.Side.{Side}
 use Rattle.grid.specs.declared.cell.Side.the-variants.{South, East, North, West}
 
--- the corner on the left at the side of entry
+-- the corner on the left, seen from the side of entry
 abbrev pub left : Corners → Side → Bool
 left k South = k .sw
 left k East = k .se
 left k North = k .ne
 left k West = k .nw
 
--- the corners across the cell
-abbrev pub leftAhead : Corners → Side → Bool
-leftAhead k South = k .nw
-leftAhead k East = k .sw
-leftAhead k North = k .se
-leftAhead k West = k .ne
+-- what the two corners at a side count in the number of the pattern (Cells.antt: `index`)
+abbrev pub near : Corners → Side → ℕ
+near k South = asNumber (k .sw) + 2 * asNumber (k .se)
+near k East = 2 * asNumber (k .se) + 8 * asNumber (k .ne)
+near k North = 4 * asNumber (k .nw) + 8 * asNumber (k .ne)
+near k West = asNumber (k .sw) + 4 * asNumber (k .nw)
 
-abbrev pub rightAhead : Corners → Side → Bool
-rightAhead k South = k .ne
-rightAhead k East = k .nw
-rightAhead k North = k .sw
-rightAhead k West = k .se
-
--- the other sides
-abbrev pub leftOf : Side → Side
-leftOf South = West
-leftOf East = South
-leftOf North = East
-leftOf West = North
-
-abbrev pub rightOf : Side → Side
-rightOf South = East
-rightOf East = North
-rightOf North = West
-rightOf West = South
-
-abbrev pub opposite : Side → Side
-opposite South = North
-opposite East = West
-opposite North = South
-opposite West = East
-
--- who has inside on the left has the inner side there, else on the right
-abbrev pub innerAhead : Bool → Corners → Side → Bool
-innerAhead inside k s = cond inside (leftAhead k s) (rightAhead k s)
-
-abbrev pub outerAhead : Bool → Corners → Side → Bool
-outerAhead inside k s = cond inside (rightAhead k s) (leftAhead k s)
-
-abbrev pub innerOf : Bool → Side → Side
-innerOf inside s = cond inside (leftOf s) (rightOf s)
-
-abbrev pub outerOf : Bool → Side → Side
-outerOf inside s = cond inside (rightOf s) (leftOf s)
-
--- the side by which a cell is left that is entered by s: the inner one where the corner ahead on the inner side is outside, else the outer
--- one where the corner ahead on the outer side is inside, else the opposite one
-abbrev pub turn : Bool → Corners → Side → Side
-turn inside k s = cond (innerAhead inside k s) (cond (outerAhead inside k s) (outerOf inside s) (opposite s)) (innerOf inside s)
+-- the same at a stick, where one of the two is inside: the one on the left, or the one on the right
+abbrev pub nearBy : Bool → Side → ℕ
+nearBy inside South = cond inside 1 2
+nearBy inside East = cond inside 2 8
+nearBy inside North = cond inside 8 4
+nearBy inside West = cond inside 4 1
 
 -- a cell in the grid that is entered by a stick, with inside on the left or on the right
 pub record Entered (L : Layer) (c r : ℕ) (s : Side) (inside : Bool) : Type 0 where
   pub whole : Whole L
   pub column-inner : c + 1 < L .size .width
   pub row-inner : r + 1 < L .size .height
-  pub stick : cut (corners L c r) s ≡ true
-  pub on-left : left (corners L c r) s ≡ inside
+  pub counted : near (corners L c r) s ≡ nearBy inside s
 
 -- the edge by which it is left
 abbrev pub leaving : Layer → ℕ → ℕ → Side → Edge

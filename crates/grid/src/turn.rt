@@ -1,6 +1,6 @@
-// The stick by which a cell is left, from the stick by which it is entered, with inside on the left, as a contour is walked, or on the right,
-// as it is walked back. So the two corners at that stick are known. Ahead, the corner on the outer side matters only if the one on the inner
-// side is inside. Each case looks up a pattern that is a constant.
+// The stick by which a cell is left that is entered by a stick, with inside on the left, as a contour is walked, or on the right, as it is
+// walked back. The two corners at that stick are known from the direction, and the two across the cell are asked. Each case looks up the
+// cell's own pattern, written as its corners ne, nw, se and sw: a constant, so that the compiler folds the look.
 use super::cell::CellSide;
 use super::cell::Side;
 use super::cell::edge_of;
@@ -14,15 +14,6 @@ ghost use Rattle.grid.specs.Layer.{layerOf};
 ghost use Rattle.grid.specs.Cells.{linkedIn, edgeOn};
 ghost use Rattle.grid.specs.Turns.{Entered, leaving};
 ghost use Rattle.grid.specs.declared.cell.Side.the-variants.{South, East, North, West};
-
-// What a corner that is inside counts in the number of a pattern.
-const SW: usize = 1;
-
-const SE: usize = 2;
-
-const NW: usize = 4;
-
-const NE: usize = 8;
 
 // The edge that is linked to a side of a cell with this pattern.
 fn leave(column: usize, row: usize, pattern: usize, side: Side) -> Edge
@@ -43,22 +34,30 @@ pub fn from_south(size: Size, bitmap: &[u8], column: usize, row: usize, left: bo
     requires { ⌜ Entered (layerOf size (now bitmap)) column row South left ⌝ }
     ensures { λ r. ⌜ r ≡ leaving (layerOf size (now (bitmap .entry))) column row South ⌝ }
 {
+    let nw = is_inside(size, bitmap, column, row + 1);
+    let ne = is_inside(size, bitmap, column + 1, row + 1);
     if left {
-        if !is_inside(size, bitmap, column, row + 1) {
-            return leave(column, row, SW, Side::South);
+        if nw {
+            if ne {
+                return leave(column, row, 0b1101, Side::South);
+            }
+            return leave(column, row, 0b0101, Side::South);
         }
-        if is_inside(size, bitmap, column + 1, row + 1) {
-            return leave(column, row, SW + NW + NE, Side::South);
+        if ne {
+            return leave(column, row, 0b1001, Side::South);
         }
-        return leave(column, row, SW + NW, Side::South);
+        return leave(column, row, 0b0001, Side::South);
     }
-    if !is_inside(size, bitmap, column + 1, row + 1) {
-        return leave(column, row, SE, Side::South);
+    if nw {
+        if ne {
+            return leave(column, row, 0b1110, Side::South);
+        }
+        return leave(column, row, 0b0110, Side::South);
     }
-    if is_inside(size, bitmap, column, row + 1) {
-        return leave(column, row, SE + NW + NE, Side::South);
+    if ne {
+        return leave(column, row, 0b1010, Side::South);
     }
-    leave(column, row, SE + NE, Side::South)
+    leave(column, row, 0b0010, Side::South)
 }
 
 // To the west: se is on the left, ne on the right.
@@ -66,22 +65,30 @@ pub fn from_east(size: Size, bitmap: &[u8], column: usize, row: usize, left: boo
     requires { ⌜ Entered (layerOf size (now bitmap)) column row East left ⌝ }
     ensures { λ r. ⌜ r ≡ leaving (layerOf size (now (bitmap .entry))) column row East ⌝ }
 {
+    let sw = is_inside(size, bitmap, column, row);
+    let nw = is_inside(size, bitmap, column, row + 1);
     if left {
-        if !is_inside(size, bitmap, column, row) {
-            return leave(column, row, SE, Side::East);
+        if sw {
+            if nw {
+                return leave(column, row, 0b0111, Side::East);
+            }
+            return leave(column, row, 0b0011, Side::East);
         }
-        if is_inside(size, bitmap, column, row + 1) {
-            return leave(column, row, SE + SW + NW, Side::East);
+        if nw {
+            return leave(column, row, 0b0110, Side::East);
         }
-        return leave(column, row, SE + SW, Side::East);
+        return leave(column, row, 0b0010, Side::East);
     }
-    if !is_inside(size, bitmap, column, row + 1) {
-        return leave(column, row, NE, Side::East);
+    if sw {
+        if nw {
+            return leave(column, row, 0b1101, Side::East);
+        }
+        return leave(column, row, 0b1001, Side::East);
     }
-    if is_inside(size, bitmap, column, row) {
-        return leave(column, row, NE + SW + NW, Side::East);
+    if nw {
+        return leave(column, row, 0b1100, Side::East);
     }
-    leave(column, row, NE + NW, Side::East)
+    leave(column, row, 0b1000, Side::East)
 }
 
 // To the south: ne is on the left, nw on the right.
@@ -89,22 +96,30 @@ pub fn from_north(size: Size, bitmap: &[u8], column: usize, row: usize, left: bo
     requires { ⌜ Entered (layerOf size (now bitmap)) column row North left ⌝ }
     ensures { λ r. ⌜ r ≡ leaving (layerOf size (now (bitmap .entry))) column row North ⌝ }
 {
+    let sw = is_inside(size, bitmap, column, row);
+    let se = is_inside(size, bitmap, column + 1, row);
     if left {
-        if !is_inside(size, bitmap, column + 1, row) {
-            return leave(column, row, NE, Side::North);
+        if sw {
+            if se {
+                return leave(column, row, 0b1011, Side::North);
+            }
+            return leave(column, row, 0b1001, Side::North);
         }
-        if is_inside(size, bitmap, column, row) {
-            return leave(column, row, NE + SE + SW, Side::North);
+        if se {
+            return leave(column, row, 0b1010, Side::North);
         }
-        return leave(column, row, NE + SE, Side::North);
+        return leave(column, row, 0b1000, Side::North);
     }
-    if !is_inside(size, bitmap, column, row) {
-        return leave(column, row, NW, Side::North);
+    if sw {
+        if se {
+            return leave(column, row, 0b0111, Side::North);
+        }
+        return leave(column, row, 0b0101, Side::North);
     }
-    if is_inside(size, bitmap, column + 1, row) {
-        return leave(column, row, NW + SE + SW, Side::North);
+    if se {
+        return leave(column, row, 0b0110, Side::North);
     }
-    leave(column, row, NW + SW, Side::North)
+    leave(column, row, 0b0100, Side::North)
 }
 
 // To the east: nw is on the left, sw on the right.
@@ -112,20 +127,28 @@ pub fn from_west(size: Size, bitmap: &[u8], column: usize, row: usize, left: boo
     requires { ⌜ Entered (layerOf size (now bitmap)) column row West left ⌝ }
     ensures { λ r. ⌜ r ≡ leaving (layerOf size (now (bitmap .entry))) column row West ⌝ }
 {
+    let se = is_inside(size, bitmap, column + 1, row);
+    let ne = is_inside(size, bitmap, column + 1, row + 1);
     if left {
-        if !is_inside(size, bitmap, column + 1, row + 1) {
-            return leave(column, row, NW, Side::West);
+        if se {
+            if ne {
+                return leave(column, row, 0b1110, Side::West);
+            }
+            return leave(column, row, 0b0110, Side::West);
         }
-        if is_inside(size, bitmap, column + 1, row) {
-            return leave(column, row, NW + NE + SE, Side::West);
+        if ne {
+            return leave(column, row, 0b1100, Side::West);
         }
-        return leave(column, row, NW + NE, Side::West);
+        return leave(column, row, 0b0100, Side::West);
     }
-    if !is_inside(size, bitmap, column + 1, row) {
-        return leave(column, row, SW, Side::West);
+    if se {
+        if ne {
+            return leave(column, row, 0b1011, Side::West);
+        }
+        return leave(column, row, 0b0011, Side::West);
     }
-    if is_inside(size, bitmap, column + 1, row + 1) {
-        return leave(column, row, SW + NE + SE, Side::West);
+    if ne {
+        return leave(column, row, 0b1001, Side::West);
     }
-    leave(column, row, SW + SE, Side::West)
+    leave(column, row, 0b0001, Side::West)
 }
