@@ -30,5 +30,4 @@ module _ (L : Layer) where
 
 pub guarantee : Guarantee
 guarantee L t opening done calls =
-    let held = keeps-all L calls (opened L t opening) (opens L t opening done) in
-    faithful L (afterAll L (opened L t opening) calls) (held .sound) (held .entries) (held .held)
+    faithful L (afterAll L (opened L t opening) calls) (keeps-all L calls (opened L t opening) (opens L t opening done))

@@ -35,7 +35,7 @@ use Rattle.table.proofs.Lengths.{lengths-of}
 use Rattle.held.specs.Held.{each, among, edgeCrosses, heldContour, heldAnswer, firstUnheld}
 use Rattle.held.specs.Questions.{entryQuestions, heldQuestions, keptQuestions, Accepted}
 
--- an edge of the grid is one of the largest layer
+-- the column and the row of an edge of the grid are below 1,024
 pub in-grid-near : (size : Size) → Sized size → (e : Edge) → inGrid size e ≡ true → NearEdge e
 in-grid-near size sized e h =
     let w = within size e h in
@@ -44,7 +44,7 @@ in-grid-near size sized e h =
       row-below = omega (arith, w .row-below, rows-small size sized (e .vertical) (e .row + 1) (omega (arith, w .row-below)) .0);
     }
 
--- The sticks of a gap are as many as follow e
+-- To test the sticks of a gap is to test as many sticks as it has, one after the other
 
 each-run : (L : Layer) (t : List ℕ) (p q : Position) (n : ℕ) (e : Edge)
     → let gap = removedFrom (next L) L t n e in

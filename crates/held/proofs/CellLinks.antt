@@ -24,14 +24,14 @@ use Rattle.chord.proofs.Order.{Inner}
 use Rattle.chord.proofs.Cells.{InCell, in-cell, Corner, SouthWest, SouthEast, NorthWest, NorthEast, touches, Half, in-half}
 use Rattle.chord.proofs.Regions.{cells-apart, opposite, halves-apart}
 
--- the corner on the left of who enters a cell by a side
+-- the corner on the left of a walk that enters a cell by a side
 abbrev leftCorner : Side → Corner
 leftCorner South = SouthWest
 leftCorner East = SouthEast
 leftCorner North = NorthEast
 leftCorner West = NorthWest
 
--- entered by the side with inside on the left
+-- the walk enters a cell by a side that is cut and has inside on its left
 abbrev entered : Corners → Side → Bool
 entered k s = cut k s && left k s
 

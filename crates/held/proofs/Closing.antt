@@ -1,8 +1,12 @@
 -- The drawn edges of a contour, in the order of the walk: each begins where the one before ended, and the last ends where the first began.
+-- Each stick stands on one contour, once, and no other edge stands on any.
 use mathlib.Core.Path.{_≡_, refl, sym, subst, _∙_}
-use mathlib.Core.Bool.{Bool, true, false, cond}
+use mathlib.Core.Logic.{inl, inr}
+use mathlib.Core.Bool.{Bool, true, false, true≢false, cond}
 use mathlib.Core.List.{List, _∷_}
 use Prim.Native.Nat.{ℕ, zero, suc}
+use native.Mathlib.Nat.{eq-zero-or-pos}
+use native.Mathlib.Omega.{arith}
 use lib.ListN.{length}
 use Rattle.arith.specs.Booleans.{both-sides}
 use Rattle.grid.specs.Layer.{Layer}
@@ -11,15 +15,16 @@ use Rattle.grid.specs.Questions.{Sound}
 use Rattle.grid.specs.Walk.{next}
 use Rattle.grid.specs.declared.edge.Edge.{Edge}
 use Rattle.grid.proofs.Walks.{next-stick}
-use Rattle.contour.specs.Walk.{first, On}
+use Rattle.contour.specs.Walk.{first, occurrences, On, ahead}
 use Rattle.contour.specs.Contours.{walkOf, contourOf}
-use Rattle.contour.specs.Walk.{ahead}
 use Rattle.contour.proofs.Orbit.{run, round, contour-run}
+use Rattle.contour.proofs.Members.{on-one}
 use Rattle.contour.proofs.First.{first-one}
 use Rattle.contour.proofs.Sticks.{laws}
+use Rattle.contour.proofs.Theorems.{on-one-contour, on-no-other}
 use Rattle.table.specs.Vertices.{keptAt, removedAt, nextKept}
 use Rattle.table.proofs.Gaps.{not-both}
-use Rattle.held.specs.Faithful.{drawnAmong, Leads, ContourClosed}
+use Rattle.held.specs.Faithful.{drawnAmong, Leads, ContourClosed, OnOneContour}
 use Rattle.held.proofs.Vertices.{Vertices, kept-of, next-over, next-here}
 use Rattle.held.proofs.HeldFacts.{HeldFacts}
 
@@ -71,3 +76,25 @@ module _ (L : Layer) (t : List ℕ) (sound : Sound L) (vertices : Vertices L t) 
             subst (λ (e : Edge). Leads (fromHere L t f) (drawnAmong L t (contourOf L f)) (fromHere L t e)) (r .back)
             (subst (λ (l : List Edge). Leads (fromHere L t f) (drawnAmong L t l) (fromHere L t (ahead (walkOf L) n f))) (sym (contour-run (walkOf L) law f stick)) whole);
       }
+
+-- Which contour a stick lies on
+
+module _ (L : Layer) (sound : Sound L) where
+  -- what does not lie on a contour stands in it 0 times
+  never : (e f : Edge) → (On (walkOf L) f e → ⊥) → occurrences (walkOf L) e (contourOf L f) ≡ 0
+  never e f n = elim (eq-zero-or-pos (occurrences (walkOf L) e (contourOf L f))) [ inl z ↦ z | inr o ↦ absurd (n o) ]
+
+  pub stick-on-one : (e : Edge) → isStick L e ≡ true → OnOneContour L e
+  stick-on-one e stick =
+      let c = on-one-contour L sound e stick in
+      record {
+        start-stick = c .0;
+        is-first = c .1;
+        once = c .2;
+        elsewhere = λ f h differ. never e f (λ o. differ (on-no-other L sound e f (c .0) h (c .1) o (omega (arith, c .2))));
+      }
+
+  pub other-on-none : (e : Edge) → isStick L e ≡ false → (f : Edge) → first (walkOf L) f ≡ true → occurrences (walkOf L) e (contourOf L f) ≡ 0
+  other-on-none e none f h =
+      let law = laws L sound in
+      never e f (λ o. true≢false (sym (on-one (walkOf L) law f e (first-one (walkOf L) law f h) o) ∙ none))

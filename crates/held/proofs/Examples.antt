@@ -1,9 +1,10 @@
--- `Faithful` holds of the traced single sample of the paper, and is refused by three wrong tables for it: a drawn edge over a sample, a contour
--- with two kept vertices, and a stick without a vertex. Two other layers refuse one more each: an edge that touches a sample, and edges that meet.
-use mathlib.Core.Path.{_≡_, refl, ap}
+-- `Faithful` holds of the traced single sample of the paper, and is refused by six wrong tables for it: a drawn edge over a sample, a contour
+-- with two kept vertices, a stick without a vertex, a kept vertex off all sticks, a number off sticks that is no entry, and an entry too many.
+-- Two other layers refuse one more each: an edge that touches a sample, and edges that meet.
+use mathlib.Core.Path.{_≡_, refl, sym, ap, _∙_}
 use mathlib.Core.Logic.{_⊎_, inl, inr, _≢_}
-use mathlib.Core.Bool.{Bool, true, false, xor}
-use mathlib.Core.List.{List, [], _∷_}
+use mathlib.Core.Bool.{Bool, true, false, true≢false, false≢true, not, xor}
+use mathlib.Core.List.{List, [], _∷_, _++_}
 use Prim.Native.Nat.{ℕ, _+_, _*_, _<_}
 use native.Mathlib.Omega.{arith}
 use lib.IntN.{pos, natAbs}
@@ -17,8 +18,9 @@ use Rattle.grid.specs.declared.edge.Edge.{Edge}
 use Rattle.contour.specs.Walk.{firstsAmong}
 use Rattle.chord.specs.Points.{Position, start, end, Point, point, On}
 use Rattle.chord.proofs.Weights.{weights→on}
-use Rattle.table.specs.Entries.{entryOf, entriesAnswer, tableLengthAnswer}
+use Rattle.table.specs.Entries.{entryOf, suits, wrong, entriesAnswer, tableLengthAnswer}
 use Rattle.table.specs.Vertices.{keptAt, removedAt, offsetAt, removedFrom, keptFrom, nextKept}
+use Rattle.table.specs.declared.entry.Entry.{Entry}
 use Rattle.held.specs.Held.{vertex, edgeCrosses, heldContour, heldAnswer}
 use Rattle.held.specs.Faithful.{Faithful, Drawn, Passes}
 use Rattle.held.proofs.Faithful.{accepted-is-faithful}
@@ -74,7 +76,7 @@ over-sample f =
       on-drawn = mean 1 1 P Q w refl refl (omega arith) refl refl;
       on-segment = mean 0 1 (start e) (end e) w refl refl (omega arith) refl refl;
     } in
-    let s = f .passes-once e refl refl z w at-z at-w in
+    let s = f .passes-once e refl false≢true z w at-z at-w in
     let n : _≡_ {A = ℕ} 128 256 = ap natAbs (s .same-x) in
     omega arith
 
@@ -90,6 +92,29 @@ no-vertex f =
     let v = f .vertices (edge true 1 0) refl .kept-or-removed in
     let n : _≡_ {A = ℕ} 0 1 = ap asNumber v in
     omega arith
+
+-- the traced table with another number for the edge from (0,0) to (1,0), which is no stick
+abbrev pub strayEntries : ℕ → List ℕ
+strayEntries n = n ∷ 0 ∷ 128 ∷ 128 ∷ 0 ∷ 0 ∷ 0 ∷ 128 ∷ 0 ∷ 0 ∷ 128 ∷ 0 ∷ []
+
+stray : (n : ℕ) → wrong false n ≡ true → Faithful single (strayEntries n) → ⊥
+unfolding isStick sample bit xor number
+stray n w f = true≢false (sym w ∙ ap (λ (x : Entry). not (suits false x)) (f .no-vertices (edge false 0 0) refl refl))
+
+-- a kept vertex off all sticks
+pub stray-kept : Faithful single (strayEntries 5) → ⊥
+unfolding entryOf
+stray-kept = stray 5 refl
+
+-- a number that stands for no vertex
+pub stray-number : Faithful single (strayEntries 9999) → ⊥
+unfolding entryOf
+stray-number = stray 9999 refl
+
+-- an entry more than there are edges
+pub too-long : Faithful single (entries 128 128 128 128 ++ (0 ∷ [])) → ⊥
+unfolding edgeCount
+too-long f = let n : _≡_ {A = ℕ} 13 12 = f .exact in omega arith
 
 -- "W 4, H 5", with the samples (1,1), (2,1), (1,2), (2,2) and (2,3) inside: two columns with a step at (1,2). Its ten entries by number are
 -- 3, 5, 6, 8, 10, 11, 16, 17, 24 and 29; 6 and 24 are those of the two sticks at (1,2).
@@ -129,7 +154,7 @@ archEntries top under =
     ∷ 0 ∷ 128 ∷ 0 ∷ 128 ∷ 0 ∷ 0 ∷ 0 ∷ under ∷ 0 ∷ 0 ∷ 0 ∷ top ∷ top ∷ top ∷ 0 ∷ []
 
 -- With those over the top removed, the drawn edge from the right foot to the left shoulder runs under the arch's inner side and meets the drawn
--- edges there, which are no neighbours of it. (It also misses the four sticks over the top.)
+-- edges there, which are not its neighbours. (It also misses the four sticks over the top.)
 pub edges-meet : Faithful arch (archEntries 384 192) → ⊥
 unfolding isStick sample bit xor keptAt removedAt offsetAt keptFrom entryOf number edgeCount next
 edges-meet f =

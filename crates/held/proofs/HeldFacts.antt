@@ -1,5 +1,5 @@
 -- What a yes to question 7 says: each drawn edge crosses the removed sticks between its ends, each contour has three kept vertices or more, and
--- so the walk from each stick comes to a kept one.
+-- so the walk from each stick reaches a kept vertex.
 use mathlib.Core.Path.{_≡_, ap}
 use mathlib.Core.Bool.{Bool, true, false, not, _||_}
 use mathlib.Core.List.{List, [], _∷_}

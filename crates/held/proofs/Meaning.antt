@@ -31,7 +31,7 @@ use Rattle.held.proofs.HeldFacts.{held-of, among-some}
 use Rattle.held.proofs.Neighbours.{crosses-all}
 use Rattle.held.proofs.Holding.{each-all, layer-held}
 
--- what is owned and removed, which is what stands between
+-- u is removed and the drawn edge from p owns it, which says that u is between the ends of that edge
 pub record OwnedRemoved (L : Layer) (t : List ℕ) (p u : Edge) : Type 0 where
   pub owned : Owns L t p u
   pub removed : removedAt L t u ≡ true

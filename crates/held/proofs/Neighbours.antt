@@ -92,7 +92,7 @@ module _ (L : Layer) (t : List ℕ) (sound : Sound L) (vertices : Vertices L t) 
       ∙ sym (next-over L t sound vertices e p (owns-stick L t sound (d .stick) o) on (d .kept) (rw n r))
       ∙ owner-next d o
 
-  -- it ends at the first stick after one that it owns that is not removed
+  -- if the stick after one that it owns is not removed, it ends there
   pub ends-at : {p e : Edge} → Drawn L t p → Owns L t p e → removedAt L t (next L e) ≡ false → nextKept L t p ≡ next L e
   ends-at {p} {e} d o r =
       let stick = owns-stick L t sound (d .stick) o in

@@ -22,7 +22,7 @@ use Rattle.held.proofs.Vertices.{Vertices, kept-of}
 use Rattle.held.proofs.Owners.{Owns, begins, goes-on, owns-stick, owns-kept, owns-trans, last-owned, end-drawn, owned-crossed}
 use Rattle.held.proofs.Neighbours.{ends-at, crosses-all}
 
--- t′ removes the kept vertex of u, and else what t removes
+-- t′ removes the kept vertex of u, and of the other sticks those that t removes
 pub record OneMore (L : Layer) (t t′ : List ℕ) (u : Edge) : Type 0 where
   pub was-drawn : Drawn L t u
   pub now-removed : removedAt L t′ u ≡ true
@@ -54,7 +54,7 @@ module _ (L : Layer) (t t′ : List ℕ) (sound : Sound L) (vertices : Vertices 
       rw (l .2) (more .others (nextKept L t p) (q .stick) m ∙ kept-not-removed L t (nextKept L t p) (q .kept)) in
       ends-at L t′ sound vertices′ (still-drawn p d n) (still-owns (d .stick) (l .1)) stays ∙ l .2
 
-  -- but for the one that ended at u: it goes on to where the one from u ended
+  -- except the one that ended at u: it goes on to where the one from u ended
   pub next-over-removed : (p : Edge) → Drawn L t p → p ≢ u → nextKept L t p ≡ u → nextKept L t u ≢ u → nextKept L t′ p ≡ nextKept L t u
   next-over-removed p d n e m =
       let du = more .was-drawn in

@@ -1,5 +1,5 @@
--- Two drawn edges share no point but the common vertex of neighbours, and the points of drawn edges on the segment between two adjacent samples:
--- one if the samples differ, none if they agree.
+-- Two drawn edges share no point, except that neighbours share their common vertex. On the segment between two adjacent samples drawn edges
+-- have one point if the samples differ, and none if they agree.
 use mathlib.Core.Path.{_≡_, refl, sym, subst, _∙_}
 use mathlib.Core.Logic.{_⊎_, inl, inr, _≢_}
 use mathlib.Core.Bool.{true, false, true≢false}

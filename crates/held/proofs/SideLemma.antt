@@ -1,7 +1,7 @@
 -- The side lemma: if a drawn edge crosses the removed sticks between its ends, its end lies strictly ahead of the line of the stick where it
 -- starts, in the direction in which the walk crosses that stick, and its start strictly behind the line of the stick where it ends. So a
--- kept vertex lies strictly between its two kept neighbours in its own across coordinate, and drawn edges come round in no fewer than four
--- (counted on a contour in FourKept).
+-- kept vertex lies strictly between its two kept neighbours in its own across coordinate, and it takes four drawn edges or more to
+-- come back to a vertex (counted on a contour in FourKept).
 use mathlib.Core.Path.{_≡_, refl, ap, sym, subst, _∙_}
 use mathlib.Core.Logic.{_⊎_, inl, inr, _≢_}
 use mathlib.Core.Bool.{Bool, true, false, cond, not}

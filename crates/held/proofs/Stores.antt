@@ -58,7 +58,7 @@ module _ (L : Layer) (sound : Sound L) (t : List ℕ) (exact : length t ≡ edge
         ap entryOf (getD-set-other t (number (L .size) u) (number (L .size) e) n 0 (λ s.
         d (number-injective (L .size) (sound .whole .sized) e u (stick-in L e stick) (stick-in L u (drawn .stick)) s)))
 
-    -- what the new entry has in common with the old one, every edge keeps
+    -- what is the same of the new entry and the old one is the same of every edge
     alike : {B : Type 0} (f : Entry → B) → f (entryOf n) ≡ f (entryAt L t u) → (e : Edge) → f (entryAt L stored e) ≡ f (entryAt L t e)
     alike f s e = elim (ℕ-discrete (number (L .size) e) (number (L .size) u)) [
       | yes q ↦

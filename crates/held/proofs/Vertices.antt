@@ -1,4 +1,4 @@
--- What a yes to question 6 says of each stick, and that going on from a kept vertex ends at a kept vertex.
+-- What a yes to question 6 says of each edge, stick or not, and that going on from a kept vertex ends at a kept vertex.
 use mathlib.Core.Path.{_≡_, refl, ap, sym, _∙_}
 use mathlib.Core.Bool.{Bool, true, false, false≢true, cond, not, _&&_, _||_}
 use mathlib.Core.List.{List, [], _∷_}
@@ -9,7 +9,7 @@ use lib.Dec.{eqb, leb}
 use lib.ListN.{length, getD}
 use Rattle.arith.specs.Booleans.{both-sides, and-split}
 use Rattle.grid.specs.Layer.{Layer}
-use Rattle.grid.specs.Edges.{isStick, number, edgeCount}
+use Rattle.grid.specs.Edges.{isStick, inGrid, number, edgeCount}
 use Rattle.grid.specs.Questions.{Sound}
 use Rattle.grid.specs.Walk.{next}
 use Rattle.grid.specs.declared.edge.Edge.{Edge}
@@ -25,7 +25,7 @@ use Rattle.contour.proofs.Orbit.{round}
 use Rattle.contour.proofs.Members.{place}
 use Rattle.contour.proofs.Sticks.{laws, stick-in}
 use Rattle.table.specs.Entries.{entryOf, suits, wrongAt, entriesAnswer}
-use Rattle.table.specs.Vertices.{isKept, isRemoved, offsetIn, keptAt, removedAt, offsetAt, keptFrom, gapAfter, nextKept}
+use Rattle.table.specs.Vertices.{isKept, isRemoved, offsetIn, entryAt, keptAt, removedAt, offsetAt, keptFrom, gapAfter, nextKept}
 use Rattle.table.specs.declared.entry.Entry.{Entry}
 use Rattle.table.specs.declared.entry.Entry.the-variants.{Nothing, Kept, Removed, Wrong}
 use Rattle.table.proofs.Gaps.{kept-not-removed, stepped, kept-over, kept-here, gap-over, gap-here, kept-fuel, gap-fuel, stops}
@@ -59,16 +59,31 @@ suits-stick n = go (eqb n 0) (leb n 255) (leb 257 n && leb n 511) refl refl refl
 abbrev pub Vertices : Layer → List ℕ → Type 0
 Vertices L t = (e : Edge) → isStick L e ≡ true → VertexInside L t e
 
-pub vertices-of : (L : Layer) (t : List ℕ) → Sound L → entriesAnswer L t ≡ Yes → Vertices L t
-unfolding entriesAnswer keptAt removedAt offsetAt
-vertices-of L t sound yes-6 e stick =
-    let sized = sound .whole .sized in
-    let k = number (L .size) e in
-    let fine = each-all WrongEntry (wrongAt L t) (edgeCount (L .size)) yes-6 k (number-below (L .size) sized e (stick-in L e stick)) in
-    let here : wrongAt L t k ≡ not (suits true (entryOf (getD t k 0))) =
-    ap (λ (b : Bool). not (suits b (entryOf (getD t k 0)))) (ap (isStick L) (edgeAt-number (L .size) sized e (stick-in L e stick)) ∙ stick) in
-    let s = suits-stick (getD t k 0) (not-false (suits true (entryOf (getD t k 0))) (sym here ∙ fine)) in
-    record { kept-or-removed = s .either; after-start = s .above; before-end = s .below }
+-- off sticks an entry is 0
+suits-other : (x : Entry) → suits false x ≡ true → x ≡ Nothing
+suits-other Nothing s = refl
+suits-other (Kept o) s = absurd (false≢true s)
+suits-other (Removed o) s = absurd (false≢true s)
+suits-other Wrong s = absurd (false≢true s)
+
+module _ (L : Layer) (t : List ℕ) (sound : Sound L) (yes-6 : entriesAnswer L t ≡ Yes) where
+  -- the entry of an edge of the grid suits it
+  pub edge-suits : (e : Edge) → inGrid (L .size) e ≡ true → suits (isStick L e) (entryAt L t e) ≡ true
+  unfolding entriesAnswer
+  edge-suits e inside =
+      let sized = sound .whole .sized in
+      ap (λ (x : Edge). suits (isStick L x) (entryAt L t e)) (sym (edgeAt-number (L .size) sized e inside))
+      ∙ not-false _
+      (each-all WrongEntry (wrongAt L t) (edgeCount (L .size)) yes-6 (number (L .size) e) (number-below (L .size) sized e inside))
+
+  pub vertices-of : Vertices L t
+  unfolding keptAt removedAt offsetAt
+  vertices-of e stick =
+      let s = suits-stick (getD t (number (L .size) e) 0) (rw stick at (edge-suits e (stick-in L e stick))) in
+      record { kept-or-removed = s .either; after-start = s .above; before-end = s .below }
+
+  pub no-vertices-of : (e : Edge) → inGrid (L .size) e ≡ true → isStick L e ≡ false → entryAt L t e ≡ Nothing
+  no-vertices-of e inside none = suits-other (entryAt L t e) (rw none at (edge-suits e inside))
 
 or-second : (a b : Bool) → (a || b) ≡ true → b ≡ false → a ≡ true
 or-second true b e f = refl
@@ -92,7 +107,7 @@ module _ (L : Layer) (t : List ℕ) (sound : Sound L) (vertices : Vertices L t) 
   stepped-ahead zero e = refl
   stepped-ahead (suc k) e = stepped-ahead k (next L e)
 
-  -- the walk from a stick of a contour with a kept vertex comes to a kept vertex, and stops there
+  -- the walk from a stick of a contour with a kept vertex reaches a kept vertex, and stops there
   module _ (e x : Edge) (stick : isStick L e ≡ true) (on : On (walkOf L) e x) (x-kept : keptAt L t x ≡ true) where
     kept-after : (k : ℕ) × (k ≤ edgeCount (L .size)) × (removedAt L t (stepped (next L) (suc k) e) ≡ false)
     unfolding ahead

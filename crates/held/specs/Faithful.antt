@@ -1,6 +1,6 @@
--- What a held layer is shown to be, said of all points X, Y, D: contours closed, vertices inside their sticks, drawn edges apart, and
--- contours passing between adjacent samples once where they differ and never where they agree.
--- proofs/Faithful.antt has the theorem that a layer that passes questions 1 to 7 is faithful.
+-- What a held layer is shown to be, said of all points X, Y, D: contours closed and made of all sticks, an entry for each edge and a vertex
+-- inside each stick, drawn edges apart, and contours passing between adjacent samples once where they differ and never where they agree.
+-- proofs/Faithful.antt has the theorem that a layer that passes questions 1 to 7 is faithful, proofs/Examples.antt tables that are not.
 use mathlib.Core.Path.{_≡_}
 use mathlib.Core.Logic.{_⊎_, _≢_}
 use mathlib.Core.Bool.{true, false, _||_}
@@ -8,13 +8,13 @@ use mathlib.Core.List.{List, [], _∷_}
 use Prim.Native.Nat.{ℕ, _≤_, _<_}
 use lib.ListN.{length}
 use Rattle.grid.specs.Layer.{Layer}
-use Rattle.grid.specs.Edges.{inGrid, isStick}
+use Rattle.grid.specs.Edges.{inGrid, edgeCount, firstEnd, secondEnd, isStick}
 use Rattle.grid.specs.declared.edge.Edge.{Edge}
-use Rattle.contour.specs.Walk.{first, occurrences, consIf}
+use Rattle.contour.specs.Walk.{first, occurrences, consIf, Round}
 use Rattle.contour.specs.Contours.{walkOf, contourOf}
-use Rattle.contour.specs.Walk.{Round}
 use Rattle.chord.specs.Points.{start, end, Point, point, Same, On, Crosses}
-use Rattle.table.specs.Vertices.{keptAt, removedAt, offsetAt, gapAfter, nextKept}
+use Rattle.table.specs.Vertices.{entryAt, keptAt, removedAt, offsetAt, gapAfter, nextKept}
+use Rattle.table.specs.declared.entry.Entry.the-variants.{Nothing}
 use Rattle.held.specs.Held.{among, vertex}
 
 -- "A drawn edge joins two kept vertices with only removed ones between." It is named by the stick of the kept vertex where it starts.
@@ -58,6 +58,13 @@ pub record ContourClosed (L : Layer) (t : List ℕ) (f : Edge) : Type 0 where
   pub begin : Edge
   pub comes-back : Leads begin (drawnAmong L t (contourOf L f)) begin
 
+-- e lies on exactly one contour, once: it stands once in the contour of `start-stick`, and not in that of any other first stick
+pub record OnOneContour (L : Layer) (e : Edge) : Type 0 where
+  pub start-stick : Edge
+  pub is-first : first (walkOf L) start-stick ≡ true
+  pub once : occurrences (walkOf L) e (contourOf L start-stick) ≡ 1
+  pub elsewhere : (f : Edge) → first (walkOf L) f ≡ true → f ≢ start-stick → occurrences (walkOf L) e (contourOf L f) ≡ 0
+
 -- "A vertex, kept or removed, lies on its stick at the offset its entry gives": each stick carries one, strictly between its samples
 pub record VertexInside (L : Layer) (t : List ℕ) (e : Edge) : Type 0 where
   pub kept-or-removed : (keptAt L t e || removedAt L t e) ≡ true
@@ -77,17 +84,26 @@ pub record Passes (L : Layer) (t : List ℕ) (e : Edge) (z : Point) : Type 0 whe
   pub on-drawn : OnDrawn L t from z
   pub on-segment : On z (start e) (end e)
 
+-- The end of demand 3, one field or more to each clause.
 pub record Faithful (L : Layer) (t : List ℕ) : Type 0 where
-  -- every contour is closed; every stick, and so every drawn edge, lies on the contour of one first stick (contour, `on-one-contour`)
+  -- Each contour is closed,
   pub closed : (f : Edge) → first (walkOf L) f ≡ true → ContourClosed L t f
-  -- each vertex, kept or removed, lies strictly inside its stick
+  -- and these are contours of the sticks: each stick, and so each drawn edge, lies on exactly one of them, once,
+  pub on-one : (e : Edge) → isStick L e ≡ true → OnOneContour L e
+  -- and an edge that is no stick on none.
+  pub on-none : (e : Edge) → isStick L e ≡ false → (f : Edge) → first (walkOf L) f ≡ true → occurrences (walkOf L) e (contourOf L f) ≡ 0
+  -- "The hold table has one 16-bit number per grid edge": no entry is missing, and none is left over.
+  pub exact : length t ≡ edgeCount (L .size)
+  -- Each vertex, kept or removed, lies strictly inside its stick, and each stick has one;
   pub vertices : (e : Edge) → isStick L e ≡ true → VertexInside L t e
-  -- two different drawn edges share no point but the common vertex of neighbours
+  -- "0 for no stick": an edge of the grid that is no stick has none.
+  pub no-vertices : (e : Edge) → inGrid (L .size) e ≡ true → isStick L e ≡ false → entryAt L t e ≡ Nothing
+  -- No two drawn edges share a point, except that neighbours share their common vertex.
   pub apart : (p q : Edge) → Drawn L t p → Drawn L t q → p ≢ q → (z : Point) → OnDrawn L t p z → OnDrawn L t q z
       → AtJoint L t p q z ⊎ AtJoint L t q p z
-  -- contours pass between two adjacent samples exactly once where they differ,
-  pub passes : (e : Edge) → inGrid (L .size) e ≡ true → isStick L e ≡ true → (z : Point) × Passes L t e z
-  pub passes-once : (e : Edge) → inGrid (L .size) e ≡ true → isStick L e ≡ true
+  -- Contours pass between two adjacent samples, the ends of an edge of the grid, exactly once where they differ
+  pub passes : (e : Edge) → inGrid (L .size) e ≡ true → firstEnd L e ≢ secondEnd L e → (z : Point) × Passes L t e z
+  pub passes-once : (e : Edge) → inGrid (L .size) e ≡ true → firstEnd L e ≢ secondEnd L e
       → (z w : Point) → Passes L t e z → Passes L t e w → Same z w
-  -- and never where they agree
-  pub passes-never : (e : Edge) → inGrid (L .size) e ≡ true → isStick L e ≡ false → (z : Point) → ¬ Passes L t e z
+  -- and never where they agree.
+  pub passes-never : (e : Edge) → inGrid (L .size) e ≡ true → firstEnd L e ≡ secondEnd L e → (z : Point) → ¬ Passes L t e z

@@ -23,6 +23,7 @@ heldQuestions L t = entryQuestions L t ++ (heldAnswer L t ∷ [])
 abbrev pub keptQuestions : Layer → List ℕ → List Answer
 keptQuestions L t = heldQuestions L t ++ (allKeptAnswer (L .size) t ∷ [])
 
+-- what a yes to questions 1 to 7 says
 pub record Accepted (L : Layer) (t : List ℕ) : Type 0 where
   pub sound : Sound L
   pub exact : length t ≡ edgeCount (L .size)
