@@ -20,7 +20,7 @@ ghost use Rattle.grid.specs.Layer.{layerOf, stride};
 ghost use Rattle.grid.specs.Edges.{isStick};
 ghost use Rattle.grid.specs.Questions.{Sound};
 ghost use Rattle.contour.specs.Contours.{contourOf};
-ghost use Rattle.contour.specs.Sets.{words, Empty, EdgeSet};
+ghost use Rattle.contour.specs.Sets.{words, Empty, FirstSet};
 ghost use Rattle.contour.specs.Marking.{markEdge, Scanned};
 
 fn widen(x: u8) -> u64
@@ -109,7 +109,7 @@ fn scan_row(size: Size, bitmap: &[u8], set: &mut EdgeSet, row: usize)
 pub fn first_sticks(size: Size, bitmap: &[u8], set: &mut EdgeSet)
     requires { ⌜ Sound (layerOf size (now bitmap)) ⌝ }
     requires { ⌜ Empty (now set) ⌝ }
-    ensures { λ r. ⌜ EdgeSet (layerOf size (now (bitmap .entry))) (now (set .exit)) ⌝ }
+    ensures { λ r. ⌜ FirstSet (layerOf size (now (bitmap .entry))) (now (set .exit)) ⌝ }
 {
     let height = size.height;
     let mut row = 0;
