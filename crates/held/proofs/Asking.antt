@@ -16,7 +16,7 @@ use Rattle.grid.specs.declared.edge.Edge.{Edge}
 use Rattle.grid.specs.declared.question.Refusal.the-variants.{NotHeld}
 use Rattle.grid.specs.declared.question.Answer.the-variants.{Yes, No}
 use Rattle.grid.proofs.Numbers.{within, columns-narrow, rows-small, edges-small, edgeAt-within}
-use Rattle.grid.proofs.Answers.{append-all, firstNo-yes}
+use Rattle.grid.proofs.Answers.{append-all, append-yes, firstNo-yes}
 use Rattle.contour.specs.Walk.{rest, firstsFrom}
 use Rattle.contour.specs.Contours.{walkOf, contourOf, sameEdge}
 use Rattle.contour.specs.Sets.{FirstSet, nextIn}
@@ -182,6 +182,14 @@ accepted-of L t e =
     let both = append-all (entryQuestions L t) (heldAnswer L t ∷ []) e in
     let six = six-of L t (both .0) in
     record { sound = six .0; exact = six .1; entries = six .2; held = firstNo-yes (heldAnswer L t) [] (both .1) .0 }
+
+-- and where 1 to 5 are answered yes for a table t, 1 to 7 are for each accepted one
+pub accepted-yes : (L : Layer) (t u : List ℕ) → firstNo (lengthQuestions L (length t)) ≡ Yes → Accepted L u → firstNo (heldQuestions L u) ≡ Yes
+accepted-yes L t u yes-5 accepted =
+    let same : length u ≡ length t = accepted .exact ∙ sym (lengths-of L (length t) yes-5 .1) in
+    let five : firstNo (lengthQuestions L (length u)) ≡ Yes = rw same yes-5 in
+    let last : firstNo (entriesAnswer L u ∷ heldAnswer L u ∷ []) ≡ Yes = rw (accepted .entries, accepted .held) in
+    sym (append-yes (lengthQuestions L (length u)) (entriesAnswer L u ∷ heldAnswer L u ∷ []) five) ∙ last
 
 -- what a yes to 1 to 7 and 15 says
 pub kept-of-yes : (L : Layer) (t : List ℕ) → firstNo (keptQuestions L t) ≡ Yes → Accepted L t × (allKeptAnswer (L .size) t ≡ Yes)

@@ -33,7 +33,7 @@ two-bytes (Kept o) h = refl
 two-bytes (Removed o) h = refl
 two-bytes Wrong h = absurd (false≢true h)
 
--- a sheet is five bytes, the contours, and one byte
+-- a sheet is the five bytes of its size command, the contours, and the byte E
 pub sheet-parts : (L : Layer) (t : List ℕ) → length (sheetOf L t) ≡ 5 + length (allContours L t) + 1
 unfolding sheetOf
 sheet-parts L t = omega (arith, length-append (allContours L t) endCommand)

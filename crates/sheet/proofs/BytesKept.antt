@@ -23,8 +23,13 @@ sets-past [] s i k d h = refl
 sets-past (x ∷ l) s i k d h = sets-past l (set s i x) (suc i) k d (omega arith) ∙ getD-set-other s i k x d (λ e. omega arith)
 
 -- and what is stored from 0 on is what the list begins with
+pub sets-joined : (l s : List ℕ) → length l ≤ length s → sets s 0 l ≡ l ++ drop (length l) s
+sets-joined l s h =
+    let z : 0 + length l ≡ length l = omega arith in
+    sets-eq l s 0 (omega arith) ∙ ap (λ (n : ℕ). l ++ drop n s) z
+
 pub sets-begin : (l s : List ℕ) → length l ≤ length s → take (length l) (sets s 0 l) ≡ l
-sets-begin l s h = rw (sets-eq l s 0 (omega arith)) (take-at l (drop (0 + length l) s) (length l) refl)
+sets-begin l s h = ap (take (length l)) (sets-joined l s h) ∙ take-at l (drop (length l) s) (length l) refl
 
 module _ (L : Layer) (t out : List ℕ) where
   pub write-length : length (writeOf L t out .output) ≡ length out

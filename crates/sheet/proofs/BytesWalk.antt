@@ -23,7 +23,7 @@ use Rattle.sheet.specs.Commands.{vertexCommand}
 use Rattle.sheet.specs.Written.{verticesOf, contourVertices, contourBytes, contoursBytes, allContours}
 use Rattle.sheet.proofs.BytesStored.{Left, left-start, left-room, left-turn, left-end}
 
--- The vertices of the contour of f are being stored in s₀ from i₀ on. The walk stands at x, whose vertex is next, at i; so far s came of it.
+-- The vertices of the contour of f are being stored in s₀ from i₀ on. The walk stands at x, whose vertex is next, at i; what was stored so far gave s.
 pub record AtVertex (L : Layer) (t : List ℕ) (f : Edge) (s₀ : List ℕ) (i₀ : ℕ) (s : List ℕ) (i : ℕ) (x : Edge) : Type 0 where
   pub due : Due (walkOf L) f x
   pub left : Left s₀ i₀ (contourVertices L t f) s i (verticesOf L t (rest (walkOf L) x f))
@@ -72,7 +72,7 @@ module _ (L : Layer) (sound : Sound L) (t : List ℕ) (f : Edge) (s₀ : List �
             (turned [] (rest-last (walkOf L) (laws L sound) f x x′ (here .due) step e))
 
 -- The contours are being stored in s₀ from i₀ on. The loop stands at the first stick with number n, whose contour is next, at i, or at the
--- end; so far s came of it.
+-- end; what was stored so far gave s.
 pub record AtContour (L : Layer) (t s₀ : List ℕ) (i₀ : ℕ) (s : List ℕ) (i n : ℕ) : Type 0 where
   pub stop : Stop L n
   pub left : Left s₀ i₀ (allContours L t) s i (contoursBytes L t (firstsFrom (walkOf L) n))

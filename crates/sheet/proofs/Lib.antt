@@ -1,4 +1,4 @@
--- What the crate's proofs cite: of writing (Bytes..) and of reading (Read..).
+-- What the crate's proofs cite: of writing (Bytes..), of reading (Read..), and of the two together.
 pub mod BytesStored
 pub mod BytesWalk
 pub mod BytesCounted
@@ -13,4 +13,5 @@ pub mod ReadFill
 pub mod ReadHeld
 pub mod ReadTheorems
 pub mod ReadWritten
+pub mod RoundTrips
 pub mod ReadExamples

@@ -1,4 +1,4 @@
--- The bytes of a command, one after the other: what a test of each says of all of them, and that a command that is cut short does not stand.
+-- The bytes of a command, one after the other: whether all of them stand, from the tests of each; and a command that is cut short does not stand.
 use mathlib.Core.Path.{_≡_, refl, sym, _∙_, ap}
 use mathlib.Core.Bool.{Bool, true, false, _&&_, _||_, and-true, and-false, and-assoc}
 use mathlib.Core.List.{List, [], _∷_, _++_}
@@ -13,15 +13,14 @@ use Rattle.arith.specs.Booleans.{asNumber, both-sides, and-split}
 use Rattle.grid.specs.declared.layer.Size.{Size}
 use Rattle.grid.specs.declared.edge.Edge.{Edge}
 use Rattle.sheet.specs.Commands.{bytesOf, kindOf, stickBytes, sizeCommand, contourCommand}
-use Rattle.sheet.specs.Reading.{standsAt}
-use Rattle.sheet.specs.Places.{vertexAt}
+use Rattle.sheet.specs.Reading.{standsAt, vertexAt}
 
 getD-any : (l : List ℕ) (i d d′ : ℕ) → i < length l → getD l i d ≡ getD l i d′
 getD-any [] i d d′ h = absurd (omega arith)
 getD-any (x ∷ l) zero d d′ h = refl
 getD-any (x ∷ l) (suc i) d d′ h = getD-any l i d d′ (omega arith)
 
--- bytes
+-- each element is a byte
 abbrev pub Bytes : List ℕ → Type 0
 Bytes [] = Unit {0}
 Bytes (b ∷ l) = (b < 256) × Bytes l
@@ -84,7 +83,12 @@ module _ (s : List ℕ) where
       (λ t. absurd (omega (arith, stands-room l i h w t)))
       (λ f. sym f)
 
-  -- the command that begins a contour, after its letter and kind
+  -- the command that begins a contour: it lies within the sheet; and what follows its letter and kind
+  pub contour-room : (i : ℕ) (f : Edge) → standsAt s i (contourCommand f) ≡ true → i + 6 ≤ length s
+  contour-room i f e =
+      let letter = and-split (eqb (getD s i 256) 0x43) (standsAt s (i + 1) (stickBytes f)) e .0 in
+      stands-room (contourCommand f) i (contour-bytes f) (omega (arith, byte-within i 0x43 (omega arith) letter)) e
+
   pub contour-rest : (i : ℕ) (f : Edge) → i + 6 ≤ length s → getD s i 0 ≡ 0x43 → getD s (i + 1) 0 ≡ kindOf (f .vertical)
       → standsAt s (i + 2) (bytesOf (f .column) ++ bytesOf (f .row)) ≡ standsAt s i (contourCommand f)
   contour-rest i f room letter kind =

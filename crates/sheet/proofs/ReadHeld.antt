@@ -36,7 +36,7 @@ module _ (L : Layer) (sound : Sound L) (s : List ℕ) (f : Edge) (b : ℕ) (stan
   standing-near =
       in-grid-near (L .size) (sound .whole .sized) e (stick-in L e (standing-stick L sound f b (stands .start-stick) e i st))
 
--- On from the kept vertex of e over removed ones: the walk stands at `at`, whose vertex stands at `place`, after so many of them
+-- On from the kept vertex of e over `gap` removed ones: the walk stands at the stick `at`, whose vertex stands at `place`
 
 pub record Seeking (L : Layer) (s : List ℕ) (f : Edge) (b : ℕ) (e at : Edge) (place gap : ℕ) : Type 0 where
   pub passed : Passed (next L) (prev L) L (described L s) e at gap

@@ -6,8 +6,6 @@ use mathlib.Core.Bool.{true, false, true≢false}
 use mathlib.Core.List.{List, [], _∷_, _++_, map, flatten, foldl, foldl-append}
 use Prim.Native.Nat.{ℕ, _+_, _*_, _<_}
 use native.Mathlib.Omega.{arith}
-use borrow.Author.Tests.{eqb-true}
-use lib.Dec.{eqb}
 use lib.ListN.{length, getD, length-set}
 use lib.Seq.{getD-set-same, getD-set-other}
 use Rattle.arith.specs.Booleans.{asNumber, both-sides}
@@ -39,7 +37,7 @@ pub widths-vertices : (l : List Edge) → widths (map vertexOf l) ≡ 2 * length
 widths-vertices [] = refl
 widths-vertices (e ∷ l) = omega (arith, widths-vertices l)
 
--- A well-formed sheet: each expected command stands where it is expected, and the last ends with the sheet
+-- A well-formed sheet: each expected command stands where it is expected
 
 module _ (s : List ℕ) where
   pub command-yes : (i : ℕ) (x : Expected) (later : List Expected) → commandsFrom s i (x ∷ later) ≡ Yes
@@ -53,13 +51,6 @@ module _ (s : List ℕ) where
   commands-after (x ∷ xs) ys i e =
       let z : i + (width x + widths xs) ≡ i + width x + widths xs = omega arith in
       rw z (commands-after xs ys (i + width x) (command-yes i x (xs ++ ys) e .1))
-
-  pub commands-length : (xs : List Expected) (i : ℕ) → commandsFrom s i xs ≡ Yes → i + widths xs ≡ length s
-  commands-length [] i e = both-sides (eqb i (length s))
-      (λ y. let q = eqb-true i (length s) y in omega arith)
-      (λ n. absurd (no-not-yes Malformed i (rw n at e)))
-  commands-length (x ∷ xs) i e =
-      let later = commands-length xs (i + width x) (command-yes i x xs e .1) in omega arith
 
 -- The sticks whose vertices are expected
 

@@ -28,10 +28,11 @@ use Rattle.table.specs.Entries.{entryOf, suits, wrong, wrongAt, entriesAnswer}
 use Rattle.table.specs.Vertices.{isKept, isRemoved, offsetIn, keptAt, removedAt, offsetAt}
 use Rattle.table.specs.declared.entry.Entry.{Entry}
 use Rattle.table.proofs.AllKept.{Inside, kept-entry, removed-entry}
-use Rattle.sheet.specs.Commands.{sizeCommand, contourCommand, vertexCommand, endCommand}
+use Rattle.sheet.specs.Commands.{sizeCommand, contourCommand, endCommand}
 use Rattle.sheet.specs.Reading.{Expected, these, vertexOf, expectedContour, expectedSheet, commandsFrom, sheetAnswer, described}
 use Rattle.sheet.specs.Places.{widths, expectedFrom, Begins, Standing, Stands}
-use Rattle.sheet.proofs.ReadPlaces.{widths-append, widths-vertices, commands-after, commands-length, expected-at, expected-once, described-here, described-off, stands-here}
+use Rattle.sheet.proofs.ReadBytes.{contour-room, vertex-room}
+use Rattle.sheet.proofs.ReadPlaces.{widths-append, widths-vertices, command-yes, commands-after, expected-at, expected-once, described-here, described-off, stands-here}
 
 -- One vertex command: letter a, offset o
 
@@ -40,7 +41,6 @@ pub record Says (a o : ℕ) (x : Entry) : Type 0 where
   pub is-removed : isRemoved x ≡ eqb a 0x52
   pub offset : offsetIn x ≡ o
   pub right : suits true x ≡ true
-  pub command : vertexCommand x ≡ a ∷ o ∷ []
 
 or-first : (a b : Bool) → (a || b) ≡ true → b ≡ false → a ≡ true
 or-first true b e f = refl
@@ -55,12 +55,18 @@ vertex-says a o h small =
     both-sides (eqb a 0x52)
     (λ t.
     let other : eqb a 0x4B ≡ false = ne-eqb a 0x4B (λ e. omega (arith, eqb-true a 0x52 t)) in
-    let two : 0x52 ∷ o ∷ [] ≡ a ∷ o ∷ [] = ap (λ (n : ℕ). n ∷ o ∷ []) (sym (eqb-true a 0x52 t)) in
-    rw (t, removed-entry o inside) (record { is-kept = sym other; is-removed = sym t; offset = refl; right = refl; command = two }))
+    rw (t, removed-entry o inside) (record { is-kept = sym other; is-removed = sym t; offset = refl; right = refl }))
     (λ f.
     let this : eqb a 0x4B ≡ true = or-first (eqb a 0x4B) (eqb a 0x52) (both .0) f in
-    let two : 0x4B ∷ o ∷ [] ≡ a ∷ o ∷ [] = ap (λ (n : ℕ). n ∷ o ∷ []) (sym (eqb-true a 0x4B this)) in
-    rw (f, kept-entry o inside) (record { is-kept = sym this; is-removed = sym f; offset = refl; right = refl; command = two }))
+    rw (f, kept-entry o inside) (record { is-kept = sym this; is-removed = sym f; offset = refl; right = refl }))
+
+-- vertex commands that stand one after the other lie within the sheet
+vertices-room : (s : List ℕ) (l : List Edge) (later : List Expected) (i : ℕ) → i ≤ length s
+    → commandsFrom s i (map vertexOf l ++ later) ≡ Yes → i + 2 * length l ≤ length s
+vertices-room s [] later i w yes-8 = omega arith
+vertices-room s (e ∷ l) later i w yes-8 =
+    let c = command-yes s i (vertexOf e) (map vertexOf l ++ later) yes-8 in
+    omega (arith, vertices-room s l later (i + 2) (vertex-room s i w (c .0)) (c .1))
 
 -- Where contours begin
 
@@ -92,12 +98,8 @@ module _ (L : Layer) where
 
     pub begins-room : i + 6 + 2 * length (contourOf L f) ≤ length s
     begins-room =
-        omega (
-          arith,
-          commands-length s (these (contourCommand f) ∷ (map vertexOf (contourOf L f) ++ expectedFrom L fs)) i begins-left,
-          widths-append (map vertexOf (contourOf L f)) (expectedFrom L fs),
-          widths-vertices (contourOf L f),
-        )
+        let c = command-yes s i (these (contourCommand f)) (map vertexOf (contourOf L f) ++ expectedFrom L fs) begins-left in
+        vertices-room s (contourOf L f) (expectedFrom L fs) (i + 6) (contour-room s i f (c .0)) (c .1)
 
     module _ (sound : Sound L) (stick : isStick L f ≡ true) where
       -- what is expected before and after vertex j

@@ -20,10 +20,10 @@ use Rattle.sheet.specs.Places.{answeredBy}
 use Rattle.sheet.proofs.ReadPlaces.{described-length}
 use Rattle.sheet.proofs.ReadStands.{described-entries}
 
--- what a sheet that is read has passed
+-- what holds where a sheet is read: its questions are answered yes, and the table at exit is the one that it describes
 pub record Passes (L : Layer) (t s : List ℕ) : Type 0 where
+  pub yes-5 : firstNo (lengthQuestions L (length t)) ≡ Yes
   pub sound : Sound L
-  pub exact : length t ≡ edgeCount (L .size)
   pub formed : sheetAnswer L s ≡ Yes
   pub held : heldAnswer L (described L s) ≡ Yes
   pub left : readOf L t s .table ≡ described L s
@@ -36,7 +36,7 @@ module _ (L : Layer) (t s : List ℕ) where
   unfolding readOf answers
   answer-is answer e = ap (answeredBy L t s) e
 
-  -- A sheet that is read has passed its questions, and the table at exit is the one that it describes.
+  -- It holds wherever the call is done.
   pub read-passes : readOf L t s .refusal ≡ 0 → Passes L t s
   unfolding answers
   read-passes done = go (firstNo answers) refl
@@ -44,19 +44,18 @@ module _ (L : Layer) (t s : List ℕ) where
       go : (answer : Answer) → firstNo answers ≡ answer → Passes L t s
       go Yes e =
           let both = append-all (lengthQuestions L (length t)) (sheetAnswer L s ∷ heldAnswer L (described L s) ∷ []) e in
-          let lengths = lengths-of L (length t) (both .0) in
           let eight = firstNo-yes (sheetAnswer L s) (heldAnswer L (described L s) ∷ []) (both .1) in
           let seven = firstNo-yes (heldAnswer L (described L s)) [] (eight .1) in
           record {
-            sound = lengths .0;
-            exact = lengths .1;
+            yes-5 = both .0;
+            sound = lengths-of L (length t) (both .0) .0;
             formed = eight .0;
             held = seven .0;
             left = ap (λ (o : Outcome). o .table) (answer-is Yes e);
           }
       go (No q place) e = absurd (omega (arith, number-some q, done, ap (λ (o : Outcome). o .refusal) (answer-is (No q place) e)))
 
-  -- It leaves an accepted layer: of a sheet of bytes.
+  -- A sheet of bytes that is read leaves an accepted layer.
   pub read-opens : ((k : ℕ) → getD s k 0 < 256) → readOf L t s .refusal ≡ 0 → Accepted L (readOf L t s .table)
   read-opens bytes done =
       let p = read-passes done in

@@ -18,9 +18,9 @@ use Rattle.contour.proofs.Loop.{Due, start, due-one, due-next, rest-more, rest-
 use Rattle.contour.proofs.Sticks.{laws}
 use Rattle.contour.proofs.FirstSets.{Stop, firsts-start, firsts-turn, firsts-end}
 use Rattle.sheet.specs.Commands.{contourCommand, endCommand}
-use Rattle.sheet.specs.Reading.{Expected, these, vertexOf, width, isAt, standsAt, expectedContour, commandsFrom}
-use Rattle.sheet.specs.Places.{vertexAt, expectedFrom, Went}
-use Rattle.sheet.proofs.ReadBytes.{vertex-room, stands-room, contour-bytes}
+use Rattle.sheet.specs.Reading.{Expected, these, vertexOf, width, isAt, standsAt, vertexAt, expectedContour, commandsFrom}
+use Rattle.sheet.specs.Places.{expectedFrom, Went}
+use Rattle.sheet.proofs.ReadBytes.{vertex-room}
 
 -- One command
 
@@ -87,9 +87,6 @@ module _ (L : Layer) (s : List ℕ) (f : Edge) (i : ℕ) where
   pub contour-no : i ≤ length s → standsAt s i (contourCommand f) ≡ false → Went s i (expectedContour L f) false i
   contour-no w bad =
       record { within = w; says = λ later. command-wrong s i (these (contourCommand f)) (map vertexOf (contourOf L f) ++ later) bad }
-
-  pub contour-room : i ≤ length s → standsAt s i (contourCommand f) ≡ true → i + 6 ≤ length s
-  contour-room w good = stands-room s (contourCommand f) i (contour-bytes f) w good
 
   pub contour-went : (all : Bool) (at : ℕ) → standsAt s i (contourCommand f) ≡ true → Went s (i + 6) (map vertexOf (contourOf L f)) all at
       → Went s i (expectedContour L f) all at

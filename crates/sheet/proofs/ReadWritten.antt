@@ -15,9 +15,9 @@ use Rattle.grid.specs.Layer.{Layer}
 use Rattle.grid.specs.Edges.{number, edgeAt, edgeCount, isStick, stickAt}
 use Rattle.grid.specs.Questions.{firstNo, Sound}
 use Rattle.grid.specs.declared.edge.Edge.{Edge}
-use Rattle.grid.specs.declared.question.Refusal.the-variants.{WrongEntry}
+use Rattle.grid.specs.declared.question.Refusal.the-variants.{WrongEntry, Malformed}
 use Rattle.grid.specs.declared.question.Answer.the-variants.{Yes}
-use Rattle.grid.proofs.Answers.{each-all, append-all, append-yes}
+use Rattle.grid.proofs.Answers.{no-not-yes, each-all, append-all, append-yes}
 use Rattle.grid.proofs.Numbers.{edgeAt-within}
 use Rattle.contour.specs.Walk.{occurrences}
 use Rattle.contour.specs.Contours.{walkOf, contourOf, firstSticks}
@@ -25,6 +25,7 @@ use Rattle.contour.proofs.Members.{occurrences-append}
 use Rattle.contour.proofs.Sticks.{same-self}
 use Rattle.table.specs.Entries.{entryOf, suits, wrong, wrongAt, entriesAnswer, lengthQuestions}
 use Rattle.table.specs.Vertices.{entryAt}
+use Rattle.table.specs.declared.entry.Entry.{Entry}
 use Rattle.table.specs.declared.entry.Entry.the-variants.{Nothing, Kept, Removed, Wrong}
 use Rattle.table.proofs.Suits.{entry-suits}
 use Rattle.held.specs.Held.{heldAnswer}
@@ -32,13 +33,13 @@ use Rattle.held.specs.Questions.{heldQuestions}
 use Rattle.held.proofs.Asking.{accepted-of}
 use Rattle.sheet.specs.Commands.{vertexCommand, sizeCommand, contourCommand, endCommand}
 use Rattle.sheet.specs.Written.{verticesOf, contoursBytes, sheetOf}
-use Rattle.sheet.specs.Reading.{Expected, these, vertexOf, standsAt, expectedContour, expectedSheet, commandsFrom, sheetAnswer, entryFrom, described, readOf}
-use Rattle.sheet.specs.Places.{vertexAt, widths, answeredBy}
-use Rattle.sheet.proofs.ReadPlaces.{widths-append, command-yes, commands-length, sticksIn, sticks-append, expected-at, expected-once, expected-stick, described-length, described-here, described-off}
-use Rattle.sheet.proofs.ReadStands.{vertex-says}
+use Rattle.sheet.specs.Reading.{Expected, these, vertexOf, width, standsAt, vertexAt, expectedContour, expectedSheet, commandsFrom, sheetAnswer, entryFrom, described, readOf}
+use Rattle.sheet.specs.Places.{widths, answeredBy}
+use Rattle.sheet.proofs.ReadPlaces.{widths-append, command-yes, sticksIn, sticks-append, expected-at, expected-once, expected-stick, described-length, described-here, described-off}
+use Rattle.sheet.proofs.ReadStands.{Says, vertex-says}
 use Rattle.sheet.proofs.ReadTheorems.{read-passes}
 
--- The bytes of an entry's vertex, and the entry that they give back
+-- The bytes of an entry's vertex command, and the entry that they give back
 
 record Command (n letter offset : ℕ) : Type 0 where
   bytes : vertexCommand (entryOf n) ≡ letter ∷ offset ∷ []
@@ -130,7 +131,7 @@ module _ (L : Layer) (sound : Sound L) (t : List ℕ) (exact : length t ≡ edge
       → (letter : ℕ) × (offset : ℕ) × Command (getD t (number (L .size) e) 0) letter offset
   stick-command e stick = command-of (getD t (number (L .size) e) 0) (entry-suits L sound t yes-6 e stick)
 
-  -- every vertex that is expected is one of a stick
+  -- each vertex that is expected belongs to a stick
   abbrev Sticks : List Expected → Type 0
   Sticks xs = (e : Edge) → 0 < occurrences (walkOf L) e (sticksIn xs) → isStick L e ≡ true
 
@@ -242,6 +243,21 @@ read-written L t u asked same =
 
 -- An accepted sheet is written again byte for byte
 
+-- nothing stands after its last command
+commands-length : (s : List ℕ) (xs : List Expected) (i : ℕ) → commandsFrom s i xs ≡ Yes → i + widths xs ≡ length s
+commands-length s [] i e = both-sides (eqb i (length s))
+    (λ y. let q = eqb-true i (length s) y in omega arith)
+    (λ n. absurd (no-not-yes Malformed i (rw n at e)))
+commands-length s (x ∷ xs) i e =
+    let later = commands-length s xs (i + width x) (command-yes s i x xs e .1) in omega arith
+
+-- the command of an entry, from what a vertex command says of it
+command-back : (a o : ℕ) (x : Entry) → Says a o x → vertexCommand x ≡ a ∷ o ∷ []
+command-back a o Nothing says = absurd (false≢true (says .right))
+command-back a o (Kept offset) says = λ i. sym (eqb-true a 0x4B (sym (says .is-kept))) i ∷ says .offset i ∷ []
+command-back a o (Removed offset) says = λ i. sym (eqb-true a 0x52 (sym (says .is-removed))) i ∷ says .offset i ∷ []
+command-back a o Wrong says = absurd (false≢true (says .right))
+
 module _ (s : List ℕ) where
   -- what is left of the sheet at i begins with the byte there
   drop-at : (i d : ℕ) → i < length s → drop i s ≡ getD s i d ∷ drop (i + 1) s
@@ -278,7 +294,7 @@ module _ (s : List ℕ) where
         let z : i + 1 + 1 ≡ i + 2 = omega arith in
         let here : vertexCommand (entryAt L (described L s) e) ≡ getD s i 0 ∷ getD s (i + 1) 0 ∷ [] =
         ap (λ (n : ℕ). vertexCommand (entryOf n)) (described-here L s sound e pre xs joined ∙ ap (entryFrom s) at)
-        ∙ vertex-says (getD s i 0) (getD s (i + 1) 0) (c .0) (bytes (i + 1)) .command in
+        ∙ command-back (getD s i 0) (getD s (i + 1) 0) _ (vertex-says (getD s i 0) (getD s (i + 1) 0) (c .0) (bytes (i + 1))) in
         let left : drop i s ≡ getD s i 0 ∷ getD s (i + 1) 0 ∷ drop (i + 2) s =
         drop-at i 0 (omega arith)
         ∙ ap (λ (l : List ℕ). getD s i 0 ∷ l) (drop-at (i + 1) 0 (omega arith) ∙ ap (λ (n : ℕ). getD s (i + 1) 0 ∷ drop n s) z) in

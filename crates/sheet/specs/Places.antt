@@ -1,10 +1,9 @@
--- What the contracts of the reading code cite besides: where in a sheet a command stands. Commands have fixed widths, so that is the sum of the
--- widths of all that is expected before it.
+-- Where the commands of a sheet stand, for the contracts of the reading code: a command's place is the sum of the widths of all that is
+-- expected before it.
 use mathlib.Core.Path.{_≡_}
-use mathlib.Core.Bool.{Bool, true, cond, _&&_, _||_}
+use mathlib.Core.Bool.{Bool, true, cond}
 use mathlib.Core.List.{List, [], _∷_, _++_, map, flatten, foldl}
 use Prim.Native.Nat.{ℕ, _+_, _*_, _≤_, _<_}
-use lib.Dec.{eqb, ltb}
 use lib.ListN.{length, getD}
 use Rattle.grid.specs.Layer.{Layer}
 use Rattle.grid.specs.Edges.{number, isStick}
@@ -19,10 +18,6 @@ use Rattle.held.specs.Held.{heldAnswer}
 use Rattle.sheet.specs.Commands.{endCommand}
 use Rattle.sheet.specs.Reading.{Expected, these, vertexOf, width, isAt, expectedContour, expectedSheet, commandsFrom, sheetAnswer, entryFrom, Reading, takeCommand, described, Outcome}
 
--- a vertex command stands at i, whatever its stick
-abbrev pub vertexAt : List ℕ → ℕ → Bool
-vertexAt s i = (eqb (getD s i 0) 0x4B || eqb (getD s i 0) 0x52) && ltb 0 (getD s (i + 1) 0)
-
 -- how many bytes the expected commands of a list have
 abbrev pub widths : List Expected → ℕ
 widths [] = 0
@@ -32,18 +27,19 @@ widths (x ∷ later) = width x + widths later
 abbrev pub expectedFrom : Layer → List Edge → List Expected
 expectedFrom L fs = flatten (map (expectedContour L) fs) ++ (these endCommand ∷ [])
 
--- the expected commands asked for from place i on: all of them stand, the last one up to `at`, or the first that does not is expected there
+-- the expected commands xs, asked for from place i on: all of them stand, and the next is expected at `at`; or not all of them do, and the
+-- first that does not is expected at `at`
 pub record Went (s : List ℕ) (i : ℕ) (xs : List Expected) (all : Bool) (at : ℕ) : Type 0 where
   pub within : at ≤ length s
   pub says : (later : List Expected) → commandsFrom s i (xs ++ later) ≡ cond all (commandsFrom s at later) (No Malformed at)
 
--- the contours of the first sticks fs, the last ones of the layer, are expected from place i on
+-- the contours of the first sticks fs, which are the last ones of the layer, are expected from place i on
 pub record Begins (L : Layer) (fs : List Edge) (i : ℕ) : Type 0 where
   pub before : List Expected
   pub joined : before ++ expectedFrom L fs ≡ expectedSheet L
   pub wide : widths before ≡ i
 
--- the vertices of the contour of f are expected from b on: that of its stick e at place i
+-- the vertices of the contour of f are expected from place b on, and among them that of the stick e at place i
 pub record Standing (L : Layer) (f : Edge) (b : ℕ) (e : Edge) (i : ℕ) : Type 0 where
   pub index : ℕ
   pub within : index < length (contourOf L f)
@@ -57,11 +53,11 @@ pub record Stands (L : Layer) (s : List ℕ) (f : Edge) (b : ℕ) : Type 0 where
   pub whole : (e : Edge) (i : ℕ) → Standing L f b e i → isAt s i (vertexOf e) ≡ true
   pub entry : (e : Edge) (i : ℕ) → Standing L f b e i → getD (described L s) (number (L .size) e) 0 ≡ entryFrom s i
 
--- where reading stands, and the table so far
+-- reading partway, at place i with the table t so far
 abbrev pub readingAt : ℕ → List ℕ → Reading
 readingAt i t = record { at = i; table = t }
 
--- the entry of stick e stored, from its vertex command
+-- the entry of stick e stored, as its vertex command gives it
 abbrev pub storeVertex : Layer → List ℕ → Reading → Edge → Reading
 storeVertex L s r e = takeCommand L s r (vertexOf e)
 
@@ -69,11 +65,11 @@ storeVertex L s r e = takeCommand L s r (vertexOf e)
 abbrev pub storeContour : Layer → List ℕ → Edge → Reading → Reading
 storeContour L s f r = foldl (storeVertex L s) r (contourOf L f)
 
--- questions 8 and 7, the last two that are put
+-- questions 8 and 7, the last two of reading a sheet
 abbrev pub sheetQuestions : Layer → List ℕ → List Answer
 sheetQuestions L s = sheetAnswer L s ∷ heldAnswer L (described L s) ∷ []
 
--- what an answer to all questions comes to, for the table t that is lent; and where 1 to 5 are passed
+-- the outcome, by the answer to all questions, where the table t is lent; and the outcome where 1 to 5 are answered yes
 abbrev pub answeredBy : Layer → List ℕ → List ℕ → Answer → Outcome
 answeredBy L t s answer =
     ifAllYes answer

@@ -35,12 +35,17 @@ abbrev pub standsAt : List ℕ → ℕ → List ℕ → Bool
 standsAt s i [] = true
 standsAt s i (b ∷ l) = eqb (getD s i 256) b && standsAt s (i + 1) l
 
--- the expected command stands at i, whole. "Reading a sheet .. treats an offset of 0 as 8", and past the end every byte reads as 0.
+-- a vertex command stands at i, whole: K or R and an offset. "Reading a sheet .. treats an offset of 0 as 8", and past the end every byte
+-- reads as 0.
+abbrev pub vertexAt : List ℕ → ℕ → Bool
+vertexAt s i = (eqb (getD s i 0) 0x4B || eqb (getD s i 0) 0x52) && ltb 0 (getD s (i + 1) 0)
+
+-- the expected command stands at i, whole
 abbrev pub isAt : List ℕ → ℕ → Expected → Bool
 isAt s i (these bytes) = standsAt s i bytes
-isAt s i (vertexOf e) = (eqb (getD s i 0) 0x4B || eqb (getD s i 0) 0x52) && ltb 0 (getD s (i + 1) 0)
+isAt s i (vertexOf e) = vertexAt s i
 
--- all that is expected, in order
+-- the commands that are expected for a contour, and for the whole sheet, in order
 abbrev pub expectedContour : Layer → Edge → List Expected
 expectedContour L f = these (contourCommand f) ∷ map vertexOf (contourOf L f)
 
@@ -59,7 +64,7 @@ sheetAnswer L s = commandsFrom s 0 (expectedSheet L)
 abbrev pub entryFrom : List ℕ → ℕ → ℕ
 entryFrom s i = cond (eqb (getD s i 0) 0x52) (256 + getD s (i + 1) 0) (getD s (i + 1) 0)
 
--- where reading stands, and the table so far
+-- reading partway: the place of the next command, and the table so far
 pub record Reading : Type 0 where
   pub at : ℕ
   pub table : List ℕ
@@ -91,7 +96,7 @@ readOf L t s =
     (λ q place. record { refusal = numberOf q; place = place; table = t })
     (record { refusal = 0; place = 0; table = described L s })
 
--- what an answer and a table at exit say
+-- the outcome that an answer and the table at exit stand for
 abbrev pub outcome : SheetRead → List ℕ → Outcome
 outcome Done t = record { refusal = 0; place = 0; table = t }
 outcome (Refused q place) t = record { refusal = numberOf q; place = place; table = t }

@@ -60,7 +60,7 @@ writeOf L t out =
     (λ q place. record { refusal = numberOf q; place = place; written = 0; output = out })
     (record { refusal = 0; place = 0; written = length (sheetOf L t); output = sets out 0 (sheetOf L t) })
 
--- what an answer and an output at exit say: "All other figures of a refused call are 0."
+-- the outcome that an answer and the output at exit stand for: "All other figures of a refused call are 0."
 abbrev pub outcome : Written → List ℕ → Outcome
 outcome (Done written) out = record { refusal = 0; place = 0; written = written; output = out }
 outcome (Refused q place) out = record { refusal = numberOf q; place = place; written = 0; output = out }

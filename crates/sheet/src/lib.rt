@@ -1,4 +1,5 @@
 // Sheets: written from a held layer, and read against a bitmap.
+mod command;
 mod read;
 mod read_command;
 mod read_fill;

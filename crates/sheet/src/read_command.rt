@@ -1,24 +1,21 @@
 // The commands of a sheet: whether one stands at a place, whole, and the entry that a vertex command gives its stick.
+use super::command::CONTOUR_BYTES;
+use super::command::SIZE_BYTES;
+use super::command::VERTEX_BYTES;
+use super::command::kind_of;
 use grid::Edge;
 use grid::Size;
 ghost use mathlib.Core.Path.{_≡_};
 ghost use mathlib.Core.Bool.{cond};
 ghost use Prim.Native.Nat.{_+_, _≤_, _<_};
 ghost use lib.ListN.{length};
-ghost use Rattle.sheet.specs.Commands.{bytesOf, kindOf, sizeCommand, contourCommand, endCommand};
-ghost use Rattle.sheet.specs.Reading.{standsAt, entryFrom};
-ghost use Rattle.sheet.specs.Places.{vertexAt};
+ghost use Rattle.sheet.specs.Commands.{bytesOf, sizeCommand, contourCommand, endCommand};
+ghost use Rattle.sheet.specs.Reading.{standsAt, vertexAt, entryFrom};
 
 fn widen(x: u8) -> usize
     ensures { λ r. ⌜ r ≡ x ⌝ }
 {
     x as usize
-}
-
-fn kind_of(vertical: bool) -> usize
-    ensures { λ r. ⌜ r ≡ kindOf vertical ⌝ }
-{
-    if vertical { 1 } else { 0 }
 }
 
 // Whether the two bytes at i are n, low byte first.
@@ -32,14 +29,14 @@ fn has_number(sheet: &[u8], i: usize, n: usize) -> bool
     widen(sheet[i + 1]) == n / 256 % 256
 }
 
-// Whether the sheet begins with the size.
+// Whether the sheet begins with the command that gives the size.
 pub fn has_size(sheet: &[u8], size: Size) -> bool
     ensures { λ r. ⌜ r ≡ standsAt (now (sheet .entry)) 0 (sizeCommand size) ⌝ }
 {
-    if sheet.len() < 5 {
+    if sheet.len() < SIZE_BYTES {
         return false;
     }
-    if widen(sheet[0]) != 0x4C {
+    if sheet[0] != b'L' {
         return false;
     }
     if !has_number(sheet, 1, size.width) {
@@ -53,13 +50,13 @@ pub fn has_contour(sheet: &[u8], i: usize, f: Edge) -> bool
     requires { ⌜ i ≤ length (now sheet) ⌝ }
     ensures { λ r. ⌜ r ≡ standsAt (now (sheet .entry)) i (contourCommand f) ⌝ }
 {
-    if sheet.len() - i < 6 {
+    if sheet.len() - i < CONTOUR_BYTES {
         return false;
     }
-    if widen(sheet[i]) != 0x43 {
+    if sheet[i] != b'C' {
         return false;
     }
-    if widen(sheet[i + 1]) != kind_of(f.vertical) {
+    if sheet[i + 1] != kind_of(f.vertical) {
         return false;
     }
     if !has_number(sheet, i + 2, f.column) {
@@ -73,16 +70,16 @@ pub fn has_vertex(sheet: &[u8], i: usize) -> bool
     requires { ⌜ i ≤ length (now sheet) ⌝ }
     ensures { λ r. ⌜ r ≡ vertexAt (now (sheet .entry)) i ⌝ }
 {
-    if sheet.len() - i < 2 {
+    if sheet.len() - i < VERTEX_BYTES {
         return false;
     }
-    let letter = widen(sheet[i]);
-    if letter != 0x4B {
-        if letter != 0x52 {
+    let letter = sheet[i];
+    if letter != b'K' {
+        if letter != b'R' {
             return false;
         }
     }
-    0 < widen(sheet[i + 1])
+    0 < sheet[i + 1]
 }
 
 // Whether E stands at i.
@@ -93,9 +90,10 @@ pub fn has_end(sheet: &[u8], i: usize) -> bool
     if i == sheet.len() {
         return false;
     }
-    widen(sheet[i]) == 0x45
+    sheet[i] == b'E'
 }
 
+// "256 plus the offset for a removed vertex".
 fn entry_of_offset(offset: u8, removed: bool) -> u16
     ensures { λ r. ⌜ r ≡ cond removed (256 + offset) offset ⌝ }
 {
@@ -111,5 +109,5 @@ pub fn entry_from(sheet: &[u8], i: usize) -> u16
     requires { ⌜ i + 2 ≤ length (now sheet) ⌝ }
     ensures { λ r. ⌜ r ≡ entryFrom (now (sheet .entry)) i ⌝ }
 {
-    entry_of_offset(sheet[i + 1], sheet[i] == 0x52)
+    entry_of_offset(sheet[i + 1], sheet[i] == b'R')
 }

@@ -1,4 +1,7 @@
-// The table of the layer that a sheet describes, which passed 8: 0 everywhere, then each stick's entry from its command.
+// The table of the layer that a sheet describes, where the sheet passed 8: 0 everywhere, then each stick's entry from its command.
+use super::command::CONTOUR_BYTES;
+use super::command::SIZE_BYTES;
+use super::command::VERTEX_BYTES;
 use super::read_command::entry_from;
 use contour::next_first;
 use contour::same_edge;
@@ -21,6 +24,7 @@ ghost use Rattle.contour.specs.Sets.{FirstSet};
 ghost use Rattle.sheet.specs.Reading.{sheetAnswer, noEntries, described};
 ghost use Rattle.sheet.specs.Places.{readingAt, storeContour};
 
+// Puts 0 in every entry.
 fn clear(table: &mut [u16])
     ensures { λ _. ⌜ now (table .exit) ≡ fill (λ k. 0) 0 (length (now (table .entry))) (now (table .entry)) ⌝ }
 {
@@ -51,7 +55,7 @@ fn store_vertices(
     loop {
         let n = number_of(size, e);
         table[n] = entry_from(sheet, at);
-        at += 2;
+        at += VERTEX_BYTES;
         e = next_stick(size, bitmap, e);
         if same_edge(e, first) {
             break;
@@ -69,14 +73,22 @@ fn store_contours(size: Size, bitmap: &[u8], table: &mut [u16], sheet: &[u8], se
     ensures { λ _. ⌜ now (table .exit) ≡ described (layerOf size (now (bitmap .entry))) (now (sheet .entry)) ⌝ }
 {
     let end = grid::kind_start(size, true);
-    let mut at: usize = 5;
+    let mut at: usize = SIZE_BYTES;
     let mut n = next_first(set, 0, end);
     while n < end {
-        at = store_vertices(size, bitmap, table, sheet, at + 6, edge_at(size, n));
+        at = store_vertices(
+            size,
+            bitmap,
+            table,
+            sheet,
+            at + CONTOUR_BYTES,
+            edge_at(size, n),
+        );
         n = next_first(set, n + 1, end);
     }
 }
 
+// Writes the table that the sheet describes, from the set of first sticks.
 pub fn fill_table(size: Size, bitmap: &[u8], table: &mut [u16], sheet: &[u8], set: &[u64; 16368])
     requires { ⌜ Sound (layerOf size (now bitmap)) ⌝ }
     requires { ⌜ FirstSet (layerOf size (now bitmap)) (now set) ⌝ }

@@ -1,5 +1,8 @@
-// Question 7 of the layer that a sheet describes, which passed 8. It is read from the sheet's bytes, so that no table is written before all is
-// accepted: the vertices of a contour stand one after the other, and each kept one answers for the drawn edge that starts at it.
+// Question 7 of the layer that a sheet describes, where the sheet passed 8. It is answered from the sheet's bytes, so that no table is written
+// before all is accepted: the vertices of a contour stand one after the other, and at each kept one the drawn edge that starts there is tested.
+use super::command::CONTOUR_BYTES;
+use super::command::SIZE_BYTES;
+use super::command::VERTEX_BYTES;
 use chord::Position;
 use chord::crosses_run;
 use chord::position_of;
@@ -13,7 +16,7 @@ use grid::edge_at;
 use grid::next_stick;
 ghost use mathlib.Core.Path.{_≡_};
 ghost use mathlib.Core.Bool.{true, false, cond};
-ghost use Prim.Native.Nat.{_+_, _*_, _≤_, _<_};
+ghost use Prim.Native.Nat.{_+_, _*_, _^_, _≤_, _<_};
 ghost use lib.ListN.{length, getD};
 ghost use Rattle.grid.specs.Layer.{layerOf};
 ghost use Rattle.grid.specs.Questions.{Sound};
@@ -27,12 +30,12 @@ ghost use Rattle.held.specs.Held.{edgeCrosses, heldContour, heldAnswer};
 ghost use Rattle.sheet.specs.Reading.{sheetAnswer, described};
 ghost use Rattle.sheet.specs.Places.{Standing, Stands};
 
-// The place after a vertex: that of the contour's first one where the walk is back.
+// The place of the vertex after the one at `place`: where the walk is back, that is the contour's first vertex, at `start`.
 fn place_after(start: usize, place: usize, back: bool) -> usize
-    requires { ⌜ place < 18446744073709551614 ⌝ }
+    requires { ⌜ place + 2 < 2 ^ 64 ⌝ }
     ensures { λ r. ⌜ r ≡ cond back start (place + 2) ⌝ }
 {
-    if back { start } else { place + 2 }
+    if back { start } else { place + VERTEX_BYTES }
 }
 
 // Where the drawn edge from a kept vertex ends, with the place of that vertex, and how many removed sticks lie between.
@@ -66,7 +69,7 @@ fn kept_after(
     loop {
         at = next_stick(size, bitmap, at);
         place = place_after(start, place, same_edge(at, first));
-        if sheet[place] != 0x52 {
+        if sheet[place] != b'R' {
             break;
         }
         gap += 1;
@@ -116,7 +119,7 @@ pub struct Checked {
     pub end: usize,
 }
 
-// The contour that starts at `first` and has its vertices from `start` on. The last kept vertex answers for the edge back to the first one.
+// The contour that starts at `first` and has its vertices from `start` on. At the last kept vertex, the edge back to the first one is tested.
 fn held_contour(size: Size, bitmap: &[u8], sheet: &[u8], start: usize, first: Edge) -> Checked
     requires { ⌜ Sound (layerOf size (now bitmap)) ⌝ }
     requires { ⌜ Stands (layerOf size (now bitmap)) (now sheet) first start ⌝ }
@@ -127,7 +130,7 @@ fn held_contour(size: Size, bitmap: &[u8], sheet: &[u8], start: usize, first: Ed
     let mut place = start;
     let mut kept: usize = 0;
     loop {
-        if sheet[place] == 0x4B {
+        if sheet[place] == b'K' {
             if !held_edge(size, bitmap, sheet, start, first, e, place) {
                 return Checked {
                     held: false,
@@ -137,7 +140,7 @@ fn held_contour(size: Size, bitmap: &[u8], sheet: &[u8], start: usize, first: Ed
             kept += 1;
         }
         e = next_stick(size, bitmap, e);
-        place += 2;
+        place += VERTEX_BYTES;
         if same_edge(e, first) {
             break;
         }
@@ -156,10 +159,10 @@ pub fn ask_described(size: Size, bitmap: &[u8], sheet: &[u8], set: &[u64; 16368]
     ensures { λ r. ⌜ r ≡ heldAnswer (layerOf size (now (bitmap .entry))) (described (layerOf size (now (bitmap .entry))) (now (sheet .entry))) ⌝ }
 {
     let end = grid::kind_start(size, true);
-    let mut at: usize = 5;
+    let mut at: usize = SIZE_BYTES;
     let mut n = next_first(set, 0, end);
     while n < end {
-        let checked = held_contour(size, bitmap, sheet, at + 6, edge_at(size, n));
+        let checked = held_contour(size, bitmap, sheet, at + CONTOUR_BYTES, edge_at(size, n));
         if !checked.held {
             return Answer::No(Refusal::NotHeld, n);
         }

@@ -1,4 +1,7 @@
 // Question 8 of a sheet: the expected commands, asked for one after the other.
+use super::command::CONTOUR_BYTES;
+use super::command::SIZE_BYTES;
+use super::command::VERTEX_BYTES;
 use super::read_command::has_contour;
 use super::read_command::has_end;
 use super::read_command::has_size;
@@ -25,7 +28,7 @@ ghost use Rattle.sheet.specs.Commands.{endCommand};
 ghost use Rattle.sheet.specs.Reading.{these, vertexOf, expectedContour, commandsFrom, sheetAnswer};
 ghost use Rattle.sheet.specs.Places.{expectedFrom, Went};
 
-// How far the commands asked for stand: all of them, the last one up to `at`, or the first that does not is expected there.
+// Whether all of the commands that were asked for stand, with the place after the last, or else that of the first that does not.
 pub struct Far {
     pub all: bool,
     pub at: usize,
@@ -44,7 +47,7 @@ fn walk_vertices(size: Size, bitmap: &[u8], sheet: &[u8], i: usize, first: Edge)
         if !has_vertex(sheet, at) {
             return Far { all: false, at };
         }
-        at += 2;
+        at += VERTEX_BYTES;
         e = next_stick(size, bitmap, e);
         if same_edge(e, first) {
             break;
@@ -63,7 +66,7 @@ fn walk_contour(size: Size, bitmap: &[u8], sheet: &[u8], i: usize, first: Edge) 
     if !has_contour(sheet, i, first) {
         return Far { all: false, at: i };
     }
-    walk_vertices(size, bitmap, sheet, i + 6, first)
+    walk_vertices(size, bitmap, sheet, i + CONTOUR_BYTES, first)
 }
 
 // E, and nothing after it.
@@ -74,10 +77,11 @@ fn ask_end(sheet: &[u8], i: usize) -> Answer
     if !has_end(sheet, i) {
         return Answer::No(Refusal::Malformed, i);
     }
-    if i + 1 == sheet.len() {
+    let after = i + 1;
+    if after == sheet.len() {
         return Answer::Yes;
     }
-    Answer::No(Refusal::Malformed, i + 1)
+    Answer::No(Refusal::Malformed, after)
 }
 
 // The contours in order, and the end.
@@ -88,7 +92,7 @@ fn ask_contours(size: Size, bitmap: &[u8], sheet: &[u8], set: &[u64; 16368]) -> 
     ensures { λ r. ⌜ r ≡ commandsFrom (now (sheet .entry)) 5 (expectedFrom (layerOf size (now (bitmap .entry))) (firstSticks (layerOf size (now (bitmap .entry))))) ⌝ }
 {
     let end = grid::kind_start(size, true);
-    let mut at: usize = 5;
+    let mut at: usize = SIZE_BYTES;
     let mut n = next_first(set, 0, end);
     while n < end {
         let far = walk_contour(size, bitmap, sheet, at, edge_at(size, n));

@@ -1,4 +1,5 @@
 // The public call that writes a sheet.
+use super::command::SIZE_BYTES;
 use super::write_bytes::put_byte;
 use super::write_bytes::put_size;
 use super::write_walk::put_contours;
@@ -28,7 +29,7 @@ pub enum Written {
     Refused(Refusal, usize),
 }
 
-// The length of a layer's sheet, whose first sticks are in the set.
+// "Its length is 6 + 6×contours + 2×vertices", of a layer whose first sticks are in the set.
 fn sheet_length(size: Size, bitmap: &[u8], set: &[u64; 16368]) -> usize
     requires { ⌜ Sound (layerOf size (now bitmap)) ⌝ }
     requires { ⌜ FirstSet (layerOf size (now bitmap)) (now set) ⌝ }
@@ -46,8 +47,8 @@ fn put_sheet(size: Size, bitmap: &[u8], table: &[u16], set: &[u64; 16368], sheet
     ensures { λ _. ⌜ now (sheet .exit) ≡ sets (now (sheet .entry)) 0 (sheetOf (layerOf size (now (bitmap .entry))) (now (table .entry))) ⌝ }
 {
     put_size(sheet, size);
-    let end = put_contours(size, bitmap, table, set, sheet, 5);
-    put_byte(sheet, end, 0x45);
+    let end = put_contours(size, bitmap, table, set, sheet, SIZE_BYTES);
+    put_byte(sheet, end, b'E');
 }
 
 // Writes the sheet of a layer that passed questions 1 to 7, if the output is long enough.
@@ -70,7 +71,7 @@ fn write_held(
     Written::Done(length)
 }
 
-// Writes the sheet of a held layer. A refusal leaves the output as found, and what lies past the sheet's end stays.
+// Writes the sheet of a held layer. A refusal leaves the output as found, and what lies past the sheet's end stays as it was.
 pub fn write_sheet(w: u16, h: u16, bitmap: &[u8], table: &[u16], sheet: &mut [u8]) -> Written
     ensures { λ r. ⌜ outcome r (now (sheet .exit)) ≡ writeOf (layerOf (sizeOf w h) (now (bitmap .entry))) (now (table .entry)) (now (sheet .entry)) ⌝ }
 {

@@ -1,4 +1,6 @@
-// The commands of a sheet, each stored from a place on. What has a length of its own gives the place after it.
+// The commands of a sheet, each stored from a place on.
+use super::command::VERTEX_BYTES;
+use super::command::kind_of;
 use grid::Edge;
 use grid::Size;
 use table::Entry;
@@ -7,7 +9,7 @@ ghost use mathlib.Core.List.{[], _∷_};
 ghost use Prim.Native.Nat.{_+_, _≤_, _<_};
 ghost use lib.ListN.{length};
 ghost use lib.Seq.{sets};
-ghost use Rattle.sheet.specs.Commands.{bytesOf, kindOf, sizeCommand, contourCommand, vertexCommand};
+ghost use Rattle.sheet.specs.Commands.{bytesOf, sizeCommand, contourCommand, vertexCommand};
 
 pub fn put_byte(sheet: &mut [u8], at: usize, b: u8)
     requires { ⌜ at < length (now sheet) ⌝ }
@@ -32,18 +34,12 @@ fn put_number(sheet: &mut [u8], at: usize, n: usize)
     put_pair(sheet, at, (n % 256) as u8, (n / 256 % 256) as u8);
 }
 
-fn kind_of(vertical: bool) -> u8
-    ensures { λ r. ⌜ r ≡ kindOf vertical ⌝ }
-{
-    if vertical { 1 } else { 0 }
-}
-
 // The command that opens a sheet.
 pub fn put_size(sheet: &mut [u8], size: Size)
     requires { ⌜ 5 ≤ length (now sheet) ⌝ }
     ensures { λ _. ⌜ now (sheet .exit) ≡ sets (now (sheet .entry)) 0 (sizeCommand size) ⌝ }
 {
-    put_byte(sheet, 0, 0x4C);
+    put_byte(sheet, 0, b'L');
     put_number(sheet, 1, size.width);
     put_number(sheet, 3, size.height);
 }
@@ -53,12 +49,12 @@ pub fn put_first(sheet: &mut [u8], at: usize, first: Edge)
     requires { ⌜ at + 6 ≤ length (now sheet) ⌝ }
     ensures { λ _. ⌜ now (sheet .exit) ≡ sets (now (sheet .entry)) at (contourCommand first) ⌝ }
 {
-    put_pair(sheet, at, 0x43, kind_of(first.vertical));
+    put_pair(sheet, at, b'C', kind_of(first.vertical));
     put_number(sheet, at + 2, first.column);
     put_number(sheet, at + 4, first.row);
 }
 
-// The command of a vertex. An entry without a vertex has none.
+// The command of a vertex, which an entry without one does not have. Gives the place after it.
 pub fn put_vertex(sheet: &mut [u8], at: usize, entry: Entry) -> usize
     requires { ⌜ at + length (vertexCommand entry) ≤ length (now sheet) ⌝ }
     ensures { λ r. ⌜ now (sheet .exit) ≡ sets (now (sheet .entry)) at (vertexCommand entry) ⌝ }
@@ -67,12 +63,12 @@ pub fn put_vertex(sheet: &mut [u8], at: usize, entry: Entry) -> usize
     match entry {
         Entry::Nothing => at,
         Entry::Kept(offset) => {
-            put_pair(sheet, at, 0x4B, offset);
-            at + 2
+            put_pair(sheet, at, b'K', offset);
+            at + VERTEX_BYTES
         }
         Entry::Removed(offset) => {
-            put_pair(sheet, at, 0x52, offset);
-            at + 2
+            put_pair(sheet, at, b'R', offset);
+            at + VERTEX_BYTES
         }
         Entry::Wrong => at,
     }

@@ -1,4 +1,5 @@
 // The contours of a sheet: the vertices of one, one with the command that opens it, and all of them in order.
+use super::command::CONTOUR_BYTES;
 use super::write_bytes::put_first;
 use super::write_bytes::put_vertex;
 use contour::next_first;
@@ -65,7 +66,7 @@ fn put_contour(
     ensures { λ r. ⌜ r ≡ at + length (contourBytes (layerOf size (now (bitmap .entry))) (now (table .entry)) first) ⌝ }
 {
     put_first(sheet, at, first);
-    put_vertices(size, bitmap, table, sheet, at + 6, first)
+    put_vertices(size, bitmap, table, sheet, at + CONTOUR_BYTES, first)
 }
 
 // Stores all contours, whose first sticks are in the set, and gives the place after them.

@@ -18,12 +18,11 @@ use Rattle.grid.specs.declared.question.Refusal.the-variants as Refusal
 use Rattle.grid.specs.declared.question.Answer.{Answer}
 use Rattle.grid.specs.declared.question.Answer.the-variants.{Yes, No}
 use Rattle.grid.proofs.Answers.{number-some, append-yes, each-yes}
-use Rattle.table.specs.Entries.{entryOf, lengthQuestions, entriesAnswer}
+use Rattle.table.specs.Entries.{entryOf, lengthQuestions}
 use Rattle.table.specs.Vertices.{isRemoved}
 use Rattle.table.specs.Kept.{isRemovedAt, allKeptAnswer}
-use Rattle.table.proofs.Lengths.{lengths-of}
-use Rattle.held.specs.Held.{heldAnswer}
 use Rattle.held.specs.Questions.{heldQuestions, keptQuestions, Accepted}
+use Rattle.held.proofs.Asking.{accepted-yes}
 use Rattle.trace.specs.Trace.{Outcome, tracedEntry, traceOf}
 use Rattle.trace.proofs.Held.{trace-opens}
 use Rattle.smooth.specs.Call.{smoothOf}
@@ -47,12 +46,8 @@ module _ (L : Layer) (t : List ℕ) (done : traceOf L t .refusal ≡ 0) where
       by (No q place) e done = absurd (omega (arith, number-some q, rw e at done))
 
   -- so 1 to 7 are answered yes for each accepted table
-  pub held-yes : (u : List ℕ) → Accepted L u → firstNo (heldQuestions L u) ≡ Yes
-  held-yes u accepted =
-      let same : length u ≡ length t = accepted .exact ∙ sym (lengths-of L (length t) yes-5 .1) in
-      let five : firstNo (lengthQuestions L (length u)) ≡ Yes = ap (λ (n : ℕ). firstNo (lengthQuestions L n)) same ∙ yes-5 in
-      let last : firstNo (entriesAnswer L u ∷ heldAnswer L u ∷ []) ≡ Yes = rw (accepted .entries, accepted .held) in
-      sym (append-yes (lengthQuestions L (length u)) (entriesAnswer L u ∷ heldAnswer L u ∷ []) five) ∙ last
+  held-yes : (u : List ℕ) → Accepted L u → firstNo (heldQuestions L u) ≡ Yes
+  held-yes u = accepted-yes L t u yes-5
 
   kept-yes : (u : List ℕ) → Accepted L u → allKeptAnswer (L .size) u ≡ Yes → firstNo (keptQuestions L u) ≡ Yes
   kept-yes u accepted kept =

@@ -1,4 +1,4 @@
--- `entry_from` meets its contract: what it is given says whether the letter at i is R.
+-- `entry_from` meets its contract.
 use borrow.Author.Needs.{needs}
 use Rattle.sheet.proofs.read_command.entry_from.Statement.{statement}
 use Rattle.sheet.proofs.read_command.entry_from.Tie as tie

@@ -18,48 +18,34 @@ returns c =
     let a = c .before .before .args in
     stands-short (a .sheet .now) (contourCommand (a .f)) (a .i) (contour-bytes (a .f)) (c .before .before .pre) (omega (arith, c .if1 .taken))
 
-shared-slice-read-widen : tie.Need-shared-slice-read-widen
-shared-slice-read-widen c = search needs
-
-widen-requires : tie.Need-widen-requires
-widen-requires c κs = search needs
+shared-slice-read-if2 : tie.Need-shared-slice-read-if2
+shared-slice-read-if2 c = search needs
 
 returns-2 : tie.Need-returns-2
 returns-2 c =
-    let a = c .before .before .before .before .before .args in
+    let a = c .before .before .before .before .args in
     stands-no (a .sheet .now) (a .i) 0x43 (stickBytes (a .f))
-    (omega (arith, c .before .before .before .before .before .pre, c .before .before .before .if1 .left))
-    (ne-eqb _ _ (λ e. c .if2 .taken (c .before .widen .ensures ∙ e)))
+    (omega (arith, c .before .before .before .before .pre, c .before .before .if1 .left))
+    (ne-eqb _ _ (c .if2 .taken))
 
-add-widen : tie.Need-add-widen
-add-widen c = search needs
+add-if3 : tie.Need-add-if3
+add-if3 c = search needs
 
-shared-slice-read-widen-2 : tie.Need-shared-slice-read-widen-2
-shared-slice-read-widen-2 c = search needs
-
-widen-requires-2 : tie.Need-widen-requires-2
-widen-requires-2 c κs = search needs
+shared-slice-read-if3 : tie.Need-shared-slice-read-if3
+shared-slice-read-if3 c = search needs
 
 kind-of-requires : tie.Need-kind-of-requires
 kind-of-requires c κs = search needs
 
 returns-3 : tie.Need-returns-3
 returns-3 c =
-    let a = c .before .before .before .before .before .before .before .before .before .args in
+    let a = c .before .before .before .before .before .before .before .args in
     stands-no (a .sheet .now) (a .i + 1) (kindOf (a .f .vertical)) (bytesOf (a .f .column) ++ bytesOf (a .f .row))
-    (omega (
-      arith,
-      c .before .before .before .before .before .before .before .before .before .pre,
-      c .before .before .before .before .before .before .before .if1 .left,
-    ))
-    (ne-eqb _ _ (λ e. c .if3 .taken (c .before .before .widen2 .ensures ∙ e ∙ sym (c .before .kind-of .ensures))))
+    (omega (arith, c .before .before .before .before .before .before .before .pre, c .before .before .before .before .before .if1 .left))
+    (ne-eqb _ _ (λ e. c .if3 .taken (e ∙ sym (c .before .kind-of .ensures))))
     ∙ stands-yes (a .sheet .now) (a .i) 0x43 (stickBytes (a .f))
-    (omega (
-      arith,
-      c .before .before .before .before .before .before .before .before .before .pre,
-      c .before .before .before .before .before .before .before .if1 .left,
-    ))
-    (eq-eqb _ _ (sym (c .before .before .before .before .before .widen .ensures) ∙ c .before .before .before .before .if2 .left))
+    (omega (arith, c .before .before .before .before .before .before .before .pre, c .before .before .before .before .before .if1 .left))
+    (eq-eqb _ _ (c .before .before .before .if2 .left))
 
 add-has-number : tie.Need-add-has-number
 add-has-number c = search needs
@@ -69,16 +55,11 @@ has-number-requires c κs = search needs
 
 returns-4 : tie.Need-returns-4
 returns-4 c =
-    let a = c .before .before .before .before .before .before .before .before .before .before .before .args in
+    let a = c .before .before .before .before .before .before .before .before .before .args in
     numbers-no (a .sheet .now) (a .i + 2) (a .f .column) (a .f .row) (sym (c .before .has-number .ensures) ∙ not-true _ (c .if4 .taken))
-    ∙ contour-rest (a .sheet .now) (a .i) (a .f) (omega (
-      arith,
-      c .before .before .before .before .before .before .before .before .before .before .before .pre,
-      c .before .before .before .before .before .before .before .before .before .if1 .left,
-    ))
-    (sym (c .before .before .before .before .before .before .before .widen .ensures)
-    ∙ c .before .before .before .before .before .before .if2 .left)
-    (sym (c .before .before .before .before .widen2 .ensures) ∙ c .before .before .if3 .left ∙ c .before .before .before .kind-of .ensures)
+    ∙ contour-rest (a .sheet .now) (a .i) (a .f) (omega (arith, c .before .before .before .before .before .before .before .before .before .pre, c .before .before .before .before .before .before .before .if1 .left))
+    (c .before .before .before .before .before .if2 .left)
+    (c .before .before .if3 .left ∙ c .before .before .before .kind-of .ensures)
 
 add-has-number-2 : tie.Need-add-has-number-2
 add-has-number-2 c = search needs
@@ -88,18 +69,12 @@ has-number-requires-2 c κs = search needs
 
 returns-5 : tie.Need-returns-5
 returns-5 c =
-    let a = c .before .before .before .before .before .before .before .before .before .before .before .before .args in
+    let a = c .before .before .before .before .before .before .before .before .before .before .args in
     c .has-number2 .ensures
     ∙ contour-last (a .sheet .now) (a .i) (a .f) (sym (c .before .before .has-number .ensures) ∙ not-false _ (c .before .if4 .left))
-    ∙ contour-rest (a .sheet .now) (a .i) (a .f) (omega (
-      arith,
-      c .before .before .before .before .before .before .before .before .before .before .before .before .pre,
-      c .before .before .before .before .before .before .before .before .before .before .if1 .left,
-    ))
-    (sym (c .before .before .before .before .before .before .before .before .widen .ensures)
-    ∙ c .before .before .before .before .before .before .before .if2 .left)
-    (sym (c .before .before .before .before .before .widen2 .ensures) ∙ c .before .before .before .if3 .left
-    ∙ c .before .before .before .before .kind-of .ensures)
+    ∙ contour-rest (a .sheet .now) (a .i) (a .f) (omega (arith, c .before .before .before .before .before .before .before .before .before .before .pre, c .before .before .before .before .before .before .before .before .if1 .left))
+    (c .before .before .before .before .before .before .if2 .left)
+    (c .before .before .before .if3 .left ∙ c .before .before .before .before .kind-of .ensures)
 
 pub has-contour-spec : {M : Type 1} → statement M
 has-contour-spec =
@@ -107,12 +82,10 @@ has-contour-spec =
     (tie.spec
     sub-if1
     returns
-    shared-slice-read-widen
-    widen-requires
+    shared-slice-read-if2
     returns-2
-    add-widen
-    shared-slice-read-widen-2
-    widen-requires-2
+    add-if3
+    shared-slice-read-if3
     kind-of-requires
     returns-3
     add-has-number

@@ -1,8 +1,6 @@
 -- `has_end` meets its contract.
 use borrow.Author.Needs.{needs}
-use mathlib.Core.Path.{ap, _∙_}
 use native.Mathlib.Omega.{arith}
-use lib.Dec.{eqb}
 use Rattle.sheet.specs.Commands.{endCommand}
 use Rattle.sheet.proofs.ReadBytes.{stands-one, stands-short}
 use Rattle.sheet.proofs.read_command.has_end.Statement.{statement}
@@ -10,20 +8,16 @@ use Rattle.sheet.proofs.read_command.has_end.Tie as tie
 
 returns : tie.Need-returns
 returns c =
-    let a = c .before .before .args in
-    stands-short (a .sheet .now) endCommand (a .i) (omega arith, tt) (c .before .before .pre) (omega (arith, c .if1 .taken))
+    let a = c .before .args in
+    stands-short (a .sheet .now) endCommand (a .i) (omega arith, tt) (c .before .pre) (omega (arith, c .if1 .taken))
 
-shared-slice-read-widen : tie.Need-shared-slice-read-widen
-shared-slice-read-widen c = search needs
-
-widen-requires : tie.Need-widen-requires
-widen-requires c κs = search needs
+shared-slice-read-result : tie.Need-shared-slice-read-result
+shared-slice-read-result c = search needs
 
 returns-2 : tie.Need-returns-2
 returns-2 c =
-    let a = c .before .before .before .before .args in
-    ap (λ x. eqb x 0x45) (c .widen .ensures)
-    ∙ stands-one (a .sheet .now) (a .i) 0x45 (omega (arith, c .before .before .before .before .pre, c .before .before .if1 .left))
+    let a = c .before .before .args in
+    stands-one (a .sheet .now) (a .i) 0x45 (omega (arith, c .before .before .pre, c .before .if1 .left))
 
 pub has-end-spec : {M : Type 1} → statement M
-has-end-spec = tie.close (tie.spec returns shared-slice-read-widen widen-requires returns-2)
+has-end-spec = tie.close (tie.spec returns shared-slice-read-result returns-2)

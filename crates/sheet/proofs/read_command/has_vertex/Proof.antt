@@ -1,6 +1,6 @@
 -- `has_vertex` meets its contract.
 use borrow.Author.Needs.{needs}
-use mathlib.Core.Path.{_≡_, sym, ap, _∙_}
+use mathlib.Core.Path.{_≡_, sym, ap}
 use mathlib.Core.Logic.{inl, inr}
 use mathlib.Core.Bool.{Bool, true, _&&_, _||_, or-true}
 use Prim.Native.Nat.{_+_}
@@ -17,48 +17,37 @@ sub-if1 c = search needs
 
 returns : tie.Need-returns
 returns c =
-    let a = c .before .before .args in
-    vertex-short (a .sheet .now) (a .i) (c .before .before .pre) (omega (arith, c .if1 .taken))
+    let a = c .before .args in
+    vertex-short (a .sheet .now) (a .i) (c .before .pre) (omega (arith, c .if1 .taken))
 
-shared-slice-read-widen : tie.Need-shared-slice-read-widen
-shared-slice-read-widen c = search needs
-
-widen-requires : tie.Need-widen-requires
-widen-requires c κs = search needs
+shared-slice-read-letter : tie.Need-shared-slice-read-letter
+shared-slice-read-letter c = search needs
 
 returns-2 : tie.Need-returns-2
-returns-2 c =
-    rw (
-      ne-eqb _ 0x4B (λ e. c .before .if2 .taken (c .before .before .widen .ensures ∙ e)),
-      ne-eqb _ 0x52
-          (λ e. c .if3 .taken (c .before .before .widen .ensures ∙ e)),
-    )
+returns-2 c = rw (ne-eqb _ 0x4B (c .before .if2 .taken), ne-eqb _ 0x52 (c .if3 .taken))
 
-add-widen : tie.Need-add-widen
-add-widen c = search needs
+add-result : tie.Need-add-result
+add-result c = search needs
 
-shared-slice-read-widen-2 : tie.Need-shared-slice-read-widen-2
-shared-slice-read-widen-2 c = search needs
-
-widen-requires-2 : tie.Need-widen-requires-2
-widen-requires-2 c κs = search needs
+shared-slice-read-result : tie.Need-shared-slice-read-result
+shared-slice-read-result c = search needs
 
 -- K or R stands there
 letter-stands : (c : tie.Joined2)
-    → let a = c .before .before .before .before .before .args in
+    → let a = c .before .before .before .args in
     (eqb (getD (a .sheet .now) (a .i) 0) 0x4B || eqb (getD (a .sheet .now) (a .i) 0) 0x52) ≡ true
 letter-stands c =
-    let a = c .before .before .before .before .before .args in
+    let a = c .before .before .before .args in
     let letter = getD (a .sheet .now) (a .i) 0 in
     elim (c .if2 .came) [
-      | inl w ↦ rw (eq-eqb letter 0x52 (sym (c .before .widen .ensures) ∙ w .1 .left), or-true)
-      | inr w ↦ rw (eq-eqb letter 0x4B (sym (c .before .widen .ensures) ∙ w .left))
+      | inl w ↦ rw (eq-eqb letter 0x52 (w .1 .left), or-true)
+      | inr w ↦ rw (eq-eqb letter 0x4B (w .left))
     ]
 
 returns-3 : tie.Need-returns-3
 returns-3 c =
-    let a = c .before .before .before .before .before .before .before .args in
-    ap (ltb 0) (c .widen2 .ensures) ∙ ap (λ (b : Bool). b && ltb 0 (getD (a .sheet .now) (a .i + 1) 0)) (sym (letter-stands (c .before .before)))
+    let a = c .before .before .before .before .args in
+    ap (λ (b : Bool). b && ltb 0 (getD (a .sheet .now) (a .i + 1) 0)) (sym (letter-stands (c .before)))
 
 pub has-vertex-spec : {M : Type 1} → statement M
 has-vertex-spec =
@@ -66,10 +55,8 @@ has-vertex-spec =
     (tie.spec
     sub-if1
     returns
-    shared-slice-read-widen
-    widen-requires
+    shared-slice-read-letter
     returns-2
-    add-widen
-    shared-slice-read-widen-2
-    widen-requires-2
+    add-result
+    shared-slice-read-result
     returns-3)

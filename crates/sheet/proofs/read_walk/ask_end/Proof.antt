@@ -13,8 +13,8 @@ has-end-requires c κs = search needs
 returns : tie.Need-returns
 returns c = rw (sym (c .before .has-end .ensures) ∙ not-true _ (c .if1 .taken))
 
-add-if2 : tie.Need-add-if2
-add-if2 c = search needs
+add-after : tie.Need-add-after
+add-after c = search needs
 
 returns-2 : tie.Need-returns-2
 returns-2 c =
@@ -24,9 +24,6 @@ returns-2 c =
       eq-eqb (a .i + 1) (length (a .sheet .now))
           (c .if2 .taken),
     )
-
-add-t6 : tie.Need-add-t6
-add-t6 c = search needs
 
 returns-3 : tie.Need-returns-3
 returns-3 c =
@@ -38,4 +35,4 @@ returns-3 c =
     )
 
 pub ask-end-spec : {M : Type 1} → statement M
-ask-end-spec = tie.close (tie.spec has-end-requires returns add-if2 returns-2 add-t6 returns-3)
+ask-end-spec = tie.close (tie.spec has-end-requires returns add-after returns-2 returns-3)

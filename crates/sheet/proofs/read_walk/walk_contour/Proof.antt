@@ -3,7 +3,8 @@ use borrow.Author.Needs.{needs}
 use mathlib.Core.Path.{sym, _∙_}
 use borrow.Author.Tests.{not-true, not-false}
 use Rattle.grid.specs.Layer.{layerOf}
-use Rattle.sheet.proofs.ReadWent.{contour-no, contour-room, contour-went}
+use Rattle.sheet.proofs.ReadBytes.{contour-room}
+use Rattle.sheet.proofs.ReadWent.{contour-no, contour-went}
 use Rattle.sheet.proofs.read_walk.walk_contour.Statement.{statement}
 use Rattle.sheet.proofs.read_walk.walk_contour.Tie as tie
 
@@ -24,9 +25,8 @@ walk-vertices-requires : tie.Need-walk-vertices-requires
 walk-vertices-requires c κs =
     let a = c .before .before .before .before .args in
     let given = c .before .before .before .before .pre in
-    let L = layerOf (a .size) (a .bitmap .now) in
     let good = sym (c .before .has-contour .ensures) ∙ not-false _ (c .if1 .left) in
-    (given .0, (given .1 .0, contour-room L (a .sheet .now) (a .first) (a .i) (given .1 .1) good))
+    (given .0, (given .1 .0, contour-room (a .sheet .now) (a .i) (a .first) good))
 
 returns-2 : tie.Need-returns-2
 returns-2 c =
