@@ -1,6 +1,6 @@
 -- "The list of demand 3 may be empty and has its calls in any order and number. It opens on the table as an accepted Trace or sheet reading
 -- left it. Each call gets W, H and the bitmap of that opening call, and the table as the call before it left it, done, refused or stopped
--- partway through a roll." The definitions named here are the ones that the promises of the five calls name.
+-- partway through a roll." The functions of src/ make these calls and promise to leave the tables that are defined here.
 use mathlib.Core.Path.{_≡_}
 use mathlib.Core.List.{List, foldl}
 use Prim.Native.Nat.{ℕ, _<_}
@@ -13,10 +13,17 @@ use Rattle.smooth.specs.Call.{smoothOf}
 use Rattle.simplify.specs.Call.{simplifyOf}
 use Rattle.roll.specs.Roll.{rollOf}
 
--- a sheet as it is lent, a list of bytes
+-- a list of bytes: each element is below 256
+abbrev pub Bytes : List ℕ → Type 0
+Bytes l = (k : ℕ) → getD l k 0 < 256
+
+-- a sheet as it is lent, and the one that a list of bytes is
 pub record Sheet : Type 0 where
   pub bytes : List ℕ
-  pub below : (k : ℕ) → getD bytes k 0 < 256
+  pub below : Bytes bytes
+
+abbrev pub sheetFrom : (l : List ℕ) → Bytes l → Sheet
+sheetFrom l below = record { bytes = l; below = below }
 
 -- the calls that write a table, with what each is given besides W, H, the bitmap and the table
 pub data Call : Type 0 where

@@ -4,13 +4,18 @@ use mathlib.Core.Path.{_≡_}
 use mathlib.Core.Bool.{true, false}
 use mathlib.Core.List.{List, [], _∷_, map}
 use Prim.Native.Nat.{ℕ}
+use native.Mathlib.Omega.{arith}
+use lib.IntN.{pos}
 use lib.ListN.{length}
 use Rattle.grid.specs.Layer.{Layer, layerOf, sizeOf}
-use Rattle.grid.specs.Edges.{number, edgeCount}
+use Rattle.grid.specs.Edges.{number, edgeCount, edgeAt}
 use Rattle.grid.specs.declared.edge.Edge.{Edge}
 use Rattle.contour.specs.Contours.{contoursOf}
+use Rattle.chord.specs.Points.{Position, Point, point, On, Meets, Crosses, slide}
+use Rattle.held.specs.Held.{vertex}
 use Rattle.trace.specs.Trace.{traceOf}
 use Rattle.smooth.specs.Call.{smoothOf}
+use Rattle.simplify.specs.Runs.{passes}
 use Rattle.simplify.specs.Call.{simplifyOf}
 use Rattle.roll.specs.Roll.{rollOf}
 
@@ -45,9 +50,22 @@ diagonal = layerOf (sizeOf 4 4) (0 ∷ 2 ∷ 4 ∷ 0 ∷ [])
 abbrev pub otherDiagonal : Layer
 otherDiagonal = layerOf (sizeOf 4 4) (0 ∷ 4 ∷ 2 ∷ 0 ∷ [])
 
--- the sticks' numbers, contour by contour
+-- the sticks' numbers, contour by contour; the stick of a number, and its vertex in a table
 abbrev pub numbers : Layer → List (List ℕ)
 numbers L = map (λ (c : List Edge). map (number (L .size)) c) (contoursOf L)
+
+abbrev pub stick : Layer → ℕ → Edge
+stick L k = edgeAt (L .size) k
+
+abbrev pub vertexOn : Layer → List ℕ → ℕ → Position
+vertexOn L t k = vertex L t (stick L k)
+
+-- the sample (1,1), and the point where a chord of the bar meets a stick: x is 768/3 and y is 640/3, in 1/256 of the pitch
+abbrev pub innerSample : Point
+innerSample = point (record { x = 256; y = 256 })
+
+abbrev pub meetingPoint : Point
+meetingPoint = record { x = pos 768; y = pos 640; d = 3; above = omega arith }
 
 -- rolls: the bar's lower middle vertex slid to 140, then removed; and the single sample's first vertex slid to an offset
 abbrev pub slideAndRemove : List ℕ
@@ -61,8 +79,8 @@ pub record Cases : Type 0 where
   pub single-contour : numbers single ≡ (2 ∷ 7 ∷ 3 ∷ 10 ∷ []) ∷ []
   pub single-entries : edgeCount (single .size) ≡ 12
   -- as traced, this layer and the bar below have these tables, whatever the lent one held
-  pub single-traced : traceOf single (offsets 7 7 7 7) ≡ record { refusal = 0; place = 0; table = traced }
-  pub bar-traced : traceOf bar (barTable 7 7) ≡ record { refusal = 0; place = 0; table = barTable 128 128 }
+  pub single-traced : (t : List ℕ) → length t ≡ 12 → traceOf single t ≡ record { refusal = 0; place = 0; table = traced }
+  pub bar-traced : (t : List ℕ) → length t ≡ 22 → traceOf bar t ≡ record { refusal = 0; place = 0; table = barTable 128 128 }
   -- "One pass on it: 179, 179, 77, 77, total 204."
   pub one-pass : smoothOf single 1 traced
       ≡ record { refusal = 0; place = 0; passes = 1; total = 204; settled = false; table = offsets 179 179 77 77 }
@@ -80,11 +98,25 @@ pub record Cases : Type 0 where
       ≡ record { refusal = 0; place = 0; passes = 0; total = 0; settled = true; table = offsets 0 0 0 0 }
   -- "Simplify it at T 255: 6 runs tried, none removed; the chord touches the sample."
   pub simplify-single : simplifyOf single 255 traced ≡ record { refusal = 0; place = 0; removed = 0; tried = 6; table = traced }
+  -- The run from stick 2 to stick 3 has stick 7 between, which ends at the sample; the run back has stick 10, which starts there. Each chord
+  -- passes through the sample, and does not cross the stick.
+  pub first-chord-touches : On innerSample (vertexOn single traced 2) (vertexOn single traced 3)
+  pub first-chord-crosses-not : ¬ Crosses (vertexOn single traced 2) (vertexOn single traced 3) (stick single 7)
+  pub second-chord-touches : On innerSample (vertexOn single traced 3) (vertexOn single traced 2)
+  pub second-chord-crosses-not : ¬ Crosses (vertexOn single traced 3) (vertexOn single traced 2) (stick single 10)
   -- "W 5, H 3, inside (1,1), (2,1), (3,1), traced, T 86: 4 removed, 6 tried. T 85: 0 removed, 14 tried. (The slide is 256/3.)"
   pub bar-at-86 : simplifyOf bar 86 (barTable 128 128)
       ≡ record { refusal = 0; place = 0; removed = 4; tried = 6; table = barTable 128 384 }
   pub bar-at-85 : simplifyOf bar 85 (barTable 128 128)
       ≡ record { refusal = 0; place = 0; removed = 0; tried = 14; table = barTable 128 128 }
+  -- The run of two edges from the contour's first stick, 4, to stick 14 passes at 86 and not at 85. Its chord crosses the stick between, 13, and
+  -- meets it in the point below; from offset 128, where the vertex is, that is 256 along the stick when multiplied out by D, which is 3.
+  pub bar-contour : numbers bar ≡ (4 ∷ 13 ∷ 14 ∷ 15 ∷ 7 ∷ 20 ∷ 19 ∷ 18 ∷ []) ∷ []
+  pub run-at-86 : passes bar (barTable 128 128) 86 (stick bar 4) 2 ≡ true
+  pub run-at-85 : passes bar (barTable 128 128) 85 (stick bar 4) 2 ≡ false
+  pub chord-crosses : Crosses (vertexOn bar (barTable 128 128) 4) (vertexOn bar (barTable 128 128) 14) (stick bar 13)
+  pub chord-meets : Meets meetingPoint (vertexOn bar (barTable 128 128) 4) (vertexOn bar (barTable 128 128) 14) (stick bar 13)
+  pub slide-is : slide meetingPoint (stick bar 13) 128 ≡ pos 256
   -- "On that layer as traced, none removed, with its lower middle vertex slid from 128 to 140 first, its removal passes at T 12 and gives 12
   -- at T 11."
   pub removal-at-12 : rollOf bar 12 slideAndRemove (barTable 128 128)

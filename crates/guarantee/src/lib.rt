@@ -1,1 +1,12 @@
-// The guarantee over every list of calls, and the paper's cases: theorems alone, in specs/ and proofs/.
+// The guarantee over every list of calls, and the paper's cases: theorems, in specs/ and proofs/. The functions here make each call that the
+// guarantee speaks of, and promise that it leaves the table that the theorem's definitions name: so the theorem is about this code.
+mod calls;
+mod openings;
+
+pub use calls::call_read;
+pub use calls::call_roll;
+pub use calls::call_simplify;
+pub use calls::call_smooth;
+pub use calls::call_trace;
+pub use openings::open_by_sheet;
+pub use openings::open_by_trace;

@@ -2,16 +2,15 @@
 // standard output. `slicing::slice` has the work.
 use libc::STDIN_FILENO;
 use libc::STDOUT_FILENO;
+use slicing::ANSWER_LIMIT;
 
-// The longest command with its bitmap is 5 + 64 × 8 bytes. One byte more is read, so that an input that is too long is seen as such.
+// The longest command with its bitmap is 5 + 64 × 8 bytes. One byte more is read, so that an input that is too long is seen as such: `inputLimit`
+// of slicing's specs/Slice.antt.
 const INPUT_LIMIT: usize = 518;
-
-// The longest sheet of a layer with sides of at most 64.
-const OUTPUT_LIMIT: usize = 28230;
 
 fn main() {
     let mut input = [0u8; INPUT_LIMIT];
-    let mut output = [0u8; OUTPUT_LIMIT];
+    let mut output = [0u8; ANSWER_LIMIT];
     let got = io::read_full(STDIN_FILENO, &mut input);
     let n = slicing::slice(&input[0..got], &mut output);
     io::write_all(STDOUT_FILENO, &output[0..n]);

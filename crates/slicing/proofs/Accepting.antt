@@ -32,7 +32,7 @@ use Rattle.simplify.proofs.Outcomes as Simplify
 use Rattle.simplify.proofs.Held.{simplify-keeps}
 use Rattle.sheet.specs.Written.{sheetOf, writeOf}
 use Rattle.sheet.proofs.BytesAnswered.{written-done}
-use Rattle.slicing.specs.Slice.{wholeCommand, layerIn, sidesFit, thinned, bytesAfter, sliceOf, Result, stored, outcome}
+use Rattle.slicing.specs.Slice.{wholeCommand, layerIn, sidesFit, passLimit, tolerance, thinned, bytesAfter, sliceOf, answerLimit, Result, stored, outcome}
 use Rattle.slicing.proofs.Bounds.{small-of, sheet-short}
 
 module _ (L : Layer) (t : List ℕ) (done : traceOf L t .refusal ≡ 0) where
@@ -73,20 +73,20 @@ module _ (L : Layer) (t : List ℕ) (done : traceOf L t .refusal ≡ 0) where
   pub thinned-accepted : Accepted L (thinned L (traceOf L t .table))
   unfolding thinned
   thinned-accepted =
-      simplify-keeps L 64 (smoothOf L 100 (traceOf L t .table) .table)
-      (Smooth.smooth-keeps L 100 (traceOf L t .table) (trace-opens L t done))
+      simplify-keeps L tolerance (smoothOf L passLimit (traceOf L t .table) .table)
+      (Smooth.smooth-keeps L passLimit (traceOf L t .table) (trace-opens L t done))
 
   pub thinned-yes : firstNo (heldQuestions L (thinned L (traceOf L t .table))) ≡ Yes
   thinned-yes = held-yes (thinned L (traceOf L t .table)) thinned-accepted
 
-  pub smooth-done : smoothOf L 100 (traceOf L t .table) .refusal ≡ 0
-  smooth-done = rw (Smooth.outcome-is L 100 (traceOf L t .table) Yes traced-yes)
+  pub smooth-done : smoothOf L passLimit (traceOf L t .table) .refusal ≡ 0
+  smooth-done = rw (Smooth.outcome-is L passLimit (traceOf L t .table) Yes traced-yes)
 
-  pub simplify-done : simplifyOf L 64 (smoothOf L 100 (traceOf L t .table) .table) .refusal ≡ 0
+  pub simplify-done : simplifyOf L tolerance (smoothOf L passLimit (traceOf L t .table) .table) .refusal ≡ 0
   simplify-done =
-      let u = smoothOf L 100 (traceOf L t .table) .table in
-      let after = Smooth.smooth-held L 100 (traceOf L t .table) traced-yes in
-      rw (Simplify.outcome-is L u 64 Yes (kept-yes u (after .0) (after .1)))
+      let u = smoothOf L passLimit (traceOf L t .table) .table in
+      let after = Smooth.smooth-held L passLimit (traceOf L t .table) traced-yes in
+      rw (Simplify.outcome-is L u tolerance Yes (kept-yes u (after .0) (after .1)))
 
   pub write-done : (out : List ℕ) → length (sheetOf L (thinned L (traceOf L t .table))) ≤ length out
       → writeOf L (thinned L (traceOf L t .table)) out .refusal ≡ 0
@@ -94,18 +94,18 @@ module _ (L : Layer) (t : List ℕ) (done : traceOf L t .refusal ≡ 0) where
 
 -- the same of the tables that a run leaves: t₁ after Trace, t₂ after Smooth and Simplify
 pub after-done : (L : Layer) (t t₁ t₂ : List ℕ) → record { refusal = 0; place = 0; table = t₁ } ≡ traceOf L t → t₂ ≡ thinned L t₁
-    → sidesFit (L .size) ≡ true → (firstNo (heldQuestions L t₂) ≡ Yes) × (length (sheetOf L t₂) ≤ 28230)
+    → sidesFit (L .size) ≡ true → (firstNo (heldQuestions L t₂) ≡ Yes) × (length (sheetOf L t₂) ≤ answerLimit)
 after-done L t t₁ t₂ traced thin fits =
     let done : traceOf L t .refusal ≡ 0 = sym (ap (λ (o : Outcome). o .refusal) traced) in
     let is : thinned L (traceOf L t .table) ≡ t₂ = sym (thin ∙ ap (λ (o : Outcome). thinned L (o .table)) traced) in
     let accepted = thinned-accepted L t done in
     let short = sheet-short L (accepted .sound) (thinned L (traceOf L t .table)) (small-of (L .size) fits) (accepted .entries) in (
       subst (λ (u : List ℕ). firstNo (heldQuestions L u) ≡ Yes) is (thinned-yes L t done),
-      subst (λ (u : List ℕ). length (sheetOf L u) ≤ 28230) is short,
+      subst (λ (u : List ℕ). length (sheetOf L u) ≤ answerLimit) is short,
     )
 
 -- so no answer is longer than the longest sheet
-pub bytes-short : (L : Layer) (t : List ℕ) → sidesFit (L .size) ≡ true → length (bytesAfter L (traceOf L t)) ≤ 28230
+pub bytes-short : (L : Layer) (t : List ℕ) → sidesFit (L .size) ≡ true → length (bytesAfter L (traceOf L t)) ≤ answerLimit
 unfolding bytesAfter
 bytes-short L t fits = both-sides (eqb (traceOf L t .refusal) 0)
     (λ e.
@@ -114,7 +114,7 @@ bytes-short L t fits = both-sides (eqb (traceOf L t .refusal) 0)
     rw e (sheet-short L (accepted .sound) (thinned L (traceOf L t .table)) (small-of (L .size) fits) (accepted .entries)))
     (λ e. rw e (lit≤ tt))
 
-pub slice-short : (input : List ℕ) → length (sliceOf input) ≤ 28230
+pub slice-short : (input : List ℕ) → length (sliceOf input) ≤ answerLimit
 unfolding sliceOf
 slice-short input = both-sides (wholeCommand input)
     (λ e. both-sides (sidesFit (layerIn input .size))
@@ -123,7 +123,7 @@ slice-short input = both-sides (wholeCommand input)
     (λ e. rw e (lit≤ tt))
 
 -- and in an output of that length the answer's length is within it
-pub answer-within : (r : ℕ) (out out′ input : List ℕ) → outcome r out′ ≡ stored out (sliceOf input) → 28230 ≤ length out → r ≤ length out′
+pub answer-within : (r : ℕ) (out out′ input : List ℕ) → outcome r out′ ≡ stored out (sliceOf input) → answerLimit ≤ length out → r ≤ length out′
 answer-within r out out′ input e room =
     let written : r ≡ length (sliceOf input) = ap (λ (o : Result). o .written) e in
     let same : length out′ ≡ length out = ap (λ (o : Result). length (o .output)) e ∙ length-sets out 0 (sliceOf input) in

@@ -30,7 +30,7 @@ use Rattle.sheet.specs.Written.{sheetOf}
 use Rattle.sheet.specs.declared.write.Written.{Written}
 use Rattle.sheet.specs.declared.write.Written.the-variants as Written
 use Rattle.sheet.proofs.BytesAnswered.{written-done}
-use Rattle.slicing.specs.Slice.{wholeCommand, numberAt, sidesFit, refusedBytes, thinned, bytesAfter, layerBytes, sliceOf, stored, outcome}
+use Rattle.slicing.specs.Slice.{sizeLetter, commandLength, wholeCommand, numberAt, sidesFit, refusedBytes, passLimit, tolerance, thinned, bytesAfter, layerBytes, sliceOf, stored, outcome}
 
 -- the table at exit is the one of the outcome
 smoothed-table : (r : Smoothing) (t : List ℕ) → t ≡ Smooth.outcome r t .table
@@ -43,14 +43,14 @@ simplified-table (Simplified.Refused q place) t = refl
 
 -- Smooth and then Simplify: t, t₁ and t₂ are the tables before, between and after
 pub thinned-is : (L : Layer) (t t₁ t₂ : List ℕ) (s : Smoothing) (r : Simplified)
-    → Smooth.outcome s t₁ ≡ Smooth.smoothOf L 100 t → Simplify.outcome r t₂ ≡ Simplify.simplifyOf L 64 t₁ → t₂ ≡ thinned L t
+    → Smooth.outcome s t₁ ≡ Smooth.smoothOf L passLimit t → Simplify.outcome r t₂ ≡ Simplify.simplifyOf L tolerance t₁ → t₂ ≡ thinned L t
 unfolding thinned
 thinned-is L t t₁ t₂ s r smoothed simplified =
     simplified-table r t₂
     ∙ ap (λ (o : Simplify.Outcome). o .table) simplified
-    ∙ ap (λ (u : List ℕ). Simplify.simplifyOf L 64 u .table) (smoothed-table s t₁ ∙ ap (λ (o : Smooth.Outcome). o .table) smoothed)
+    ∙ ap (λ (u : List ℕ). Simplify.simplifyOf L tolerance u .table) (smoothed-table s t₁ ∙ ap (λ (o : Smooth.Outcome). o .table) smoothed)
 
--- what came of Trace, by its answer r, and the bytes after it
+-- the outcome of Trace, by its answer r, and the bytes after it
 module _ (L : Layer) (t : List ℕ) (r : Traced) (o : Trace.Outcome) (asked : Trace.outcome r t ≡ o) where
   pub traced-done : r ≡ Traced.Done → record { refusal = 0; place = 0; table = t } ≡ o
   traced-done e = sym (ap (λ (x : Traced). Trace.outcome x t) e) ∙ asked
@@ -76,8 +76,8 @@ take-zeros (suc n) (suc m) h = ap (λ (l : List ℕ). 0 ∷ l) (take-zeros n m (
 pub first-zeros : (n m : ℕ) → n ≤ m → take {A = ℕ} (n - 0) (replicate m 0) ≡ replicate n 0
 first-zeros n m h = rw (sub-zero n) (take-zeros n m h)
 
-pub after-command : (input : List ℕ) → take (length input - 5) (drop 5 input) ≡ drop 5 input
-after-command input = take-all (length input - 5) (drop 5 input) (omega (arith, length-drop 5 input))
+pub after-command : (input : List ℕ) → take (length input - commandLength) (drop commandLength input) ≡ drop commandLength input
+after-command input = take-all (length input - commandLength) (drop commandLength input) (omega (arith, length-drop commandLength input))
 
 -- writing the sheet of a layer that passes 1 to 7, to an output that holds it, is done
 module _ (L : Layer) (t out out′ : List ℕ) (r : Written) (yes-7 : firstNo (heldQuestions L t) ≡ Yes)
@@ -95,8 +95,8 @@ module _ (L : Layer) (t out out′ : List ℕ) (r : Written) (yes-7 : firstNo (h
 
 -- The command and the sides
 
-pub command-long : (input : List ℕ) → wholeCommand input ≡ true → 5 ≤ length input
-command-long input h = leb-true 5 (length input) (and-split (leb 5 (length input)) (eqb (getD input 0 0) 0x4C) h .0)
+pub command-long : (input : List ℕ) → wholeCommand input ≡ true → commandLength ≤ length input
+command-long input h = leb-true commandLength (length input) (and-split (leb commandLength (length input)) (eqb (getD input 0 0) sizeLetter) h .0)
 
 module _ (input : List ℕ) where
   pub no-command : wholeCommand input ≡ false → sliceOf input ≡ refusedBytes 2
@@ -105,12 +105,12 @@ module _ (input : List ℕ) where
 
   module _ (w h : ℕ) (command : wholeCommand input ≡ true) (is-w : w ≡ numberAt input 1) (is-h : h ≡ numberAt input 3) where
     -- after the command the sides are asked
-    by-sides : (b : Bool) → sidesFit (sizeOf w h) ≡ b → sliceOf input ≡ cond b (layerBytes (layerOf (sizeOf w h) (drop 5 input))) (refusedBytes 1)
+    by-sides : (b : Bool) → sidesFit (sizeOf w h) ≡ b → sliceOf input ≡ cond b (layerBytes (layerOf (sizeOf w h) (drop commandLength input))) (refusedBytes 1)
     unfolding sliceOf
     by-sides b e = rw (command, ← is-w, ← is-h, e)
 
     pub bad-sides : sidesFit (sizeOf w h) ≡ false → sliceOf input ≡ refusedBytes 1
     bad-sides e = by-sides false e
 
-    pub good-sides : sidesFit (sizeOf w h) ≡ true → sliceOf input ≡ layerBytes (layerOf (sizeOf w h) (drop 5 input))
+    pub good-sides : sidesFit (sizeOf w h) ≡ true → sliceOf input ≡ layerBytes (layerOf (sizeOf w h) (drop commandLength input))
     good-sides e = by-sides true e

@@ -1,5 +1,5 @@
 -- How long an answer is: the number of a refusal is a byte, and a layer with sides of at most 64 has at most 8,064 grid edges. So a sheet, with
--- 6 + 6 × contours + 2 × vertices bytes, has at most 28,230 of them, since each contour has four vertices.
+-- 6 + 6 × contours + 2 × vertices bytes, has at most 28,230 of them, since each contour has four vertices or more.
 use mathlib.Core.Path.{_≡_, ap}
 use mathlib.Core.Bool.{true}
 use mathlib.Core.List.{List, [], _∷_, map, flatten}
@@ -28,7 +28,7 @@ use Rattle.table.specs.Entries.{entriesAnswer}
 use Rattle.held.proofs.FourKept.{four-sticks}
 use Rattle.sheet.specs.Written.{sheetOf}
 use Rattle.sheet.proofs.BytesCounted.{sheet-length}
-use Rattle.slicing.specs.Slice.{sideFits, sidesFit}
+use Rattle.slicing.specs.Slice.{sideLimit, sideFits, sidesFit, tableLimit, answerLimit}
 
 pub number-small : (q : Refusal) → numberOf q ≤ 15
 number-small Refusal.BadSides = lit≤ tt
@@ -48,15 +48,15 @@ number-small Refusal.ShortOutput = lit≤ tt
 number-small Refusal.SomeRemoved = lit≤ tt
 
 -- what a yes to the question on the sides says
-side-of : (n : ℕ) → sideFits n ≡ true → (2 ≤ n) × (n ≤ 64)
+side-of : (n : ℕ) → sideFits n ≡ true → (2 ≤ n) × (n ≤ sideLimit)
 side-of n h =
-    let both = and-split (leb 2 n) (leb n 64) h in
-    (leb-true 2 n (both .0), leb-true n 64 (both .1))
+    let both = and-split (leb 2 n) (leb n sideLimit) h in
+    (leb-true 2 n (both .0), leb-true n sideLimit (both .1))
 
 pub record Small (size : Size) : Type 0 where
   pub sized : Sized size
-  pub narrow : size .width ≤ 64
-  pub low : size .height ≤ 64
+  pub narrow : size .width ≤ sideLimit
+  pub low : size .height ≤ sideLimit
 
 pub small-of : (size : Size) → sidesFit size ≡ true → Small size
 small-of size h =
@@ -69,13 +69,13 @@ small-of size h =
       low = k .1;
     }
 
-pub edges-few : (size : Size) → Small size → edgeCount size ≤ 8064
+pub edges-few : (size : Size) → Small size → edgeCount size ≤ tableLimit
 unfolding edgeCount
 edges-few size small =
     let narrow = small .narrow in
     let low = small .low in
-    let p = mul-le-mul {n₁ = size .width - 1} {m₁ = size .height} {n₂ = 63} {m₂ = 64} (omega arith) low in
-    let q = mul-le-mul {n₁ = size .width} {m₁ = size .height - 1} {n₂ = 64} {m₂ = 63} narrow (omega arith) in
+    let p = mul-le-mul {n₁ = size .width - 1} {m₁ = size .height} {n₂ = sideLimit - 1} {m₂ = sideLimit} (omega arith) low in
+    let q = mul-le-mul {n₁ = size .width} {m₁ = size .height - 1} {n₂ = sideLimit} {m₂ = sideLimit - 1} narrow (omega arith) in
     omega arith
 
 -- each contour has four sticks or more
@@ -92,7 +92,7 @@ module _ (L : Layer) (sound : Sound L) where
         length-append (contourOf L f) (flatten (map (contour (walkOf L)) l)),
       )
 
-  pub sheet-short : (t : List ℕ) → Small (L .size) → entriesAnswer L t ≡ Yes → length (sheetOf L t) ≤ 28230
+  pub sheet-short : (t : List ℕ) → Small (L .size) → entriesAnswer L t ≡ Yes → length (sheetOf L t) ≤ answerLimit
   sheet-short t small suited =
       omega (
         arith,

@@ -1,4 +1,4 @@
--- Document 01's example of the layer program, by running the definitions, and its refusals.
+-- The paper's example of the layer program and its refusals, by running the definitions.
 use mathlib.Core.Path.{_≡_, refl}
 use mathlib.Core.Bool.{xor}
 use mathlib.Core.List.{List, [], _∷_}

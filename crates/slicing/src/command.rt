@@ -5,14 +5,26 @@ ghost use lib.ListN.{length};
 ghost use Rattle.grid.specs.Layer.{sizeOf};
 ghost use Rattle.slicing.specs.Slice.{wholeCommand, numberAt, sideFits, sidesFit};
 
+// "L (hex 4C), W, H (16 bits, low byte first)"
+const SIZE_LETTER: u8 = 0x4C;
+
+pub const WIDTH_AT: usize = 1;
+
+pub const HEIGHT_AT: usize = 3;
+
+pub const COMMAND_LENGTH: usize = 5;
+
+// "Its sides are at most 64"
+const SIDE_LIMIT: u16 = 64;
+
 // Whether the input begins with a whole L command.
 pub fn has_command(input: &[u8]) -> bool
     ensures { λ r. ⌜ r ≡ wholeCommand (now (input .entry)) ⌝ }
 {
-    if input.len() < 5 {
+    if input.len() < COMMAND_LENGTH {
         return false;
     }
-    input[0] == 0x4C
+    input[0] == SIZE_LETTER
 }
 
 fn number(low: u8, high: u8) -> u16
@@ -36,7 +48,7 @@ fn side_fits(n: u16) -> bool
     if n < 2 {
         return false;
     }
-    n <= 64
+    n <= SIDE_LIMIT
 }
 
 pub fn sides_fit(w: u16, h: u16) -> bool

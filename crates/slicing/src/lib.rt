@@ -3,4 +3,5 @@ mod call;
 mod command;
 mod steps;
 
+pub use call::ANSWER_LIMIT;
 pub use call::slice;

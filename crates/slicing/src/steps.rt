@@ -13,22 +13,25 @@ ghost use Rattle.grid.specs.Questions.{numberOf, firstNo};
 ghost use Rattle.grid.specs.declared.question.Answer.the-variants.{Yes};
 ghost use Rattle.held.specs.Questions.{heldQuestions};
 ghost use Rattle.sheet.specs.Written.{sheetOf};
-ghost use Rattle.slicing.specs.Slice.{sidesFit, refusedBytes, thinned, bytesIn, layerBytes, stored, outcome};
+ghost use Rattle.slicing.specs.Slice.{sidesFit, tableLimit, answerLimit, refusedBytes, thinned, bytesIn, layerBytes, stored, outcome};
 
-// How many grid edges a layer of 64 by 64 samples has, the most that there can be.
+// How many grid edges a layer of 64 by 64 samples has, the most that there can be: `tableLimit` of specs/Slice.antt.
 const TABLE_LIMIT: usize = 8064;
 
-// When smoothing stops if it does not settle before, and the tolerance of Simplify.
+// "smooths (limit 100), simplifies (T 64)"
 const PASS_LIMIT: u16 = 100;
 
 const TOLERANCE: u8 = 64;
+
+// "hex 3F and the number as one byte"
+const REFUSAL_MARK: u8 = 0x3F;
 
 // Writes the two bytes of a refusal.
 pub fn refuse(question: Refusal, output: &mut [u8]) -> usize
     requires { ⌜ 2 ≤ length (now output) ⌝ }
     ensures { λ r. ⌜ outcome r (now (output .exit)) ≡ stored (now (output .entry)) (refusedBytes (numberOf question)) ⌝ }
 {
-    output[0] = 0x3F;
+    output[0] = REFUSAL_MARK;
     output[1] = grid::refusal_number(question) as u8;
     2
 }
@@ -57,7 +60,7 @@ fn write(w: u16, h: u16, bitmap: &[u8], table: &[u16], output: &mut [u8]) -> usi
 // The answer to a layer, by the table that it is traced in.
 fn slice_in(w: u16, h: u16, bitmap: &[u8], table: &mut [u16], output: &mut [u8]) -> usize
     requires { ⌜ sidesFit (sizeOf w h) ≡ true ⌝ }
-    requires { ⌜ 28230 ≤ length (now output) ⌝ }
+    requires { ⌜ answerLimit ≤ length (now output) ⌝ }
     ensures { λ r. ⌜ outcome r (now (output .exit)) ≡ stored (now (output .entry)) (bytesIn (layerOf (sizeOf w h) (now (bitmap .entry))) (now (table .entry))) ⌝ }
 {
     let traced = trace::trace(w, h, bitmap, table);
@@ -73,7 +76,7 @@ fn slice_in(w: u16, h: u16, bitmap: &[u8], table: &mut [u16], output: &mut [u8])
 // How many entries the table of a layer has, one for each grid edge.
 fn entry_count(w: u16, h: u16) -> usize
     requires { ⌜ sidesFit (sizeOf w h) ≡ true ⌝ }
-    ensures { λ r. ⌜ (r ≡ edgeCount (sizeOf w h)) × (r ≤ 8064) ⌝ }
+    ensures { λ r. ⌜ (r ≡ edgeCount (sizeOf w h)) × (r ≤ tableLimit) ⌝ }
 {
     grid::edge_count(Size {
         width: w as usize,
@@ -84,7 +87,7 @@ fn entry_count(w: u16, h: u16) -> usize
 // The answer to a layer.
 pub fn slice_layer(w: u16, h: u16, bitmap: &[u8], output: &mut [u8]) -> usize
     requires { ⌜ sidesFit (sizeOf w h) ≡ true ⌝ }
-    requires { ⌜ 28230 ≤ length (now output) ⌝ }
+    requires { ⌜ answerLimit ≤ length (now output) ⌝ }
     ensures { λ r. ⌜ outcome r (now (output .exit)) ≡ stored (now (output .entry)) (layerBytes (layerOf (sizeOf w h) (now (bitmap .entry)))) ⌝ }
 {
     let n = entry_count(w, h);

@@ -3,6 +3,7 @@ use Prim.Native.Nat.{_-_, _≤_}
 use borrow.Author.Needs.{needs}
 use lib.Dec.{lit≤}
 use lib.ListN.{length, take, replicate}
+use Rattle.slicing.specs.Slice.{answerLimit}
 use Rattle.slicing.proofs.Accepting.{answer-within}
 use Rattle.layer.proofs.main.Statement.{statement}
 use Rattle.layer.proofs.main.Tie as tie
@@ -22,9 +23,6 @@ part-slice-start c = search needs
 part-slice-end : tie.Need-part-slice-end
 part-slice-end c = search needs
 
-slice-aggregate-slice : tie.Need-slice-aggregate-slice
-slice-aggregate-slice c = search needs
-
 slice-requires : tie.Need-slice-requires
 slice-requires c κs = search needs
 
@@ -36,11 +34,11 @@ part-write-all-start c = search needs
 
 part-write-all-end : tie.Need-part-write-all-end
 part-write-all-end c =
-    let slice = c .before .before .slice in
-    let read = c .before .before .before .before .before .before .before .read-full in
+    let slice = c .before .slice in
+    let read = c .before .before .before .before .before .before .read-full in
     let input = take (read .result - 0) (read .last .1 .0) in
     let within : slice .result ≤ length (slice .last .1 .0) =
-    answer-within (slice .result) (replicate 28230 0) (slice .last .1 .0) input (slice .ensures) (lit≤ tt) in
+    answer-within (slice .result) (replicate answerLimit 0) (slice .last .1 .0) input (slice .ensures) (lit≤ tt) in
     search needs
 
 write-all-requires : tie.Need-write-all-requires
@@ -58,7 +56,6 @@ main-spec =
     sub-slice
     part-slice-start
     part-slice-end
-    slice-aggregate-slice
     slice-requires
     sub-write-all
     part-write-all-start

@@ -8,7 +8,7 @@ use borrow.Author.Tests.{not-true, not-false}
 use borrow.Author.Needs.{needs}
 use lib.ListN.{length}
 use Rattle.grid.specs.Layer.{layerOf, sizeOf}
-use Rattle.slicing.specs.Slice.{wholeCommand, layerBytes, stored}
+use Rattle.slicing.specs.Slice.{commandLength, wholeCommand, layerBytes, stored}
 use Rattle.slicing.proofs.Answers.{after-command, command-long, no-command, bad-sides, good-sides}
 use Rattle.slicing.proofs.call.slice.Statement.{statement}
 use Rattle.slicing.proofs.call.slice.Tie as tie
@@ -19,22 +19,19 @@ has-command-requires c κs = search needs
 refuse-requires : tie.Need-refuse-requires
 refuse-requires c κs = search needs
 
-same-length : tie.Need-same-length
-same-length c = search needs
-
 returns : tie.Need-returns
 returns c =
-    let asked = c .before .before .before .before .before in
-    let a = asked .before .before .before .args in
-    let none = sym (asked .has-command .ensures) ∙ not-true _ (c .before .before .before .before .if1 .taken) in
-    c .before .before .refuse .ensures ∙ ap (stored (a .output .now)) (sym (no-command (a .input .now) none))
+    let asked = c .before .before .before in
+    let a = asked .before .before .args in
+    let none = sym (asked .has-command .ensures) ∙ not-true _ (c .before .before .if1 .taken) in
+    c .refuse .ensures ∙ ap (stored (a .output .now)) (sym (no-command (a .input .now) none))
 
 -- past the first test there is a command, and it is five bytes long
-command : (c : tie.Else1) → wholeCommand (c .before .before .before .before .args .input .now) ≡ true
+command : (c : tie.Else1) → wholeCommand (c .before .before .before .args .input .now) ≡ true
 command c = sym (c .before .has-command .ensures) ∙ not-false _ (c .if1 .left)
 
-long : (c : tie.Else1) → 5 ≤ length (c .before .before .before .before .args .input .now)
-long c = command-long (c .before .before .before .before .args .input .now) (command c)
+long : (c : tie.Else1) → commandLength ≤ length (c .before .before .before .args .input .now)
+long c = command-long (c .before .before .before .args .input .now) (command c)
 
 number-at-requires : tie.Need-number-at-requires
 number-at-requires c κs = omega (arith, long c)
@@ -48,17 +45,14 @@ sides-fit-requires c κs = search needs
 refuse-requires-2 : tie.Need-refuse-requires-2
 refuse-requires-2 c κs = search needs
 
-same-length-2 : tie.Need-same-length-2
-same-length-2 c = search needs
-
 returns-2 : tie.Need-returns-2
 returns-2 c =
-    let asked = c .before .before .before .before .before in
+    let asked = c .before .before .before in
     let sides = asked .before in
     let first = sides .before in
-    let a = first .before .before .before .before .before .args in
-    let bad = sym (asked .sides-fit .ensures) ∙ not-true _ (c .before .before .before .before .if2 .taken) in
-    c .before .before .refuse2 .ensures
+    let a = first .before .before .before .before .args in
+    let bad = sym (asked .sides-fit .ensures) ∙ not-true _ (c .before .before .if2 .taken) in
+    c .refuse2 .ensures
     ∙ ap (stored (a .output .now))
     (sym (bad-sides (a .input .now) (first .number-at .result) (sides .number-at2 .result) (command (first .before))
     (first .number-at .ensures) (sides .number-at2 .ensures) bad))
@@ -75,20 +69,16 @@ part-slice-layer-end c = search needs
 slice-layer-requires : tie.Need-slice-layer-requires
 slice-layer-requires c κs =
     let asked = c .before .before .before in
-    let start = asked .before .before .before .before .before .before .before in
-    (sym (asked .sides-fit .ensures) ∙ not-false _ (c .before .before .if2 .left), omega (arith, start .pre))
-
-same-length-3 : tie.Need-same-length-3
-same-length-3 c = search needs
+    (sym (asked .sides-fit .ensures) ∙ not-false _ (c .before .before .if2 .left), search needs)
 
 returns-3 : tie.Need-returns-3
 returns-3 c =
-    let asked = c .before .before .before .before .before .before in
+    let asked = c .before .before .before .before in
     let sides = asked .before in
     let first = sides .before in
-    let a = first .before .before .before .before .before .args in
-    let good = sym (asked .sides-fit .ensures) ∙ not-false _ (c .before .before .before .before .before .if2 .left) in
-    c .before .before .slice-layer .ensures
+    let a = first .before .before .before .before .args in
+    let good = sym (asked .sides-fit .ensures) ∙ not-false _ (c .before .before .before .if2 .left) in
+    c .slice-layer .ensures
     ∙ ap (λ (s : List ℕ). stored (a .output .now) (layerBytes (layerOf (sizeOf (first .number-at .result) (sides .number-at2 .result)) s)))
     (after-command (a .input .now))
     ∙ ap (stored (a .output .now))
@@ -101,17 +91,14 @@ slice-spec =
     (tie.spec
     has-command-requires
     refuse-requires
-    same-length
     returns
     number-at-requires
     number-at-requires-2
     sides-fit-requires
     refuse-requires-2
-    same-length-2
     returns-2
     sub-slice-layer
     part-slice-layer-start
     part-slice-layer-end
     slice-layer-requires
-    same-length-3
     returns-3)

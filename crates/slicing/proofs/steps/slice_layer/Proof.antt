@@ -6,7 +6,7 @@ use borrow.Author.Needs.{needs}
 use lib.ListN.{replicate}
 use Rattle.grid.specs.Layer.{layerOf, sizeOf}
 use Rattle.trace.specs.Trace.{traceOf}
-use Rattle.slicing.specs.Slice.{bytesAfter, layerBytes, stored}
+use Rattle.slicing.specs.Slice.{bytesAfter, layerBytes, tableLimit, stored}
 use Rattle.slicing.proofs.Answers.{first-zeros}
 use Rattle.slicing.proofs.steps.slice_layer.Statement.{statement}
 use Rattle.slicing.proofs.steps.slice_layer.Tie as tie
@@ -38,7 +38,7 @@ returns c =
     let L = layerOf (sizeOf (a .w) (a .h)) (a .bitmap .now) in
     run .slice-in .ensures
     ∙ ap (λ (t : List ℕ). stored (a .output .now) (bytesAfter L (traceOf L t)))
-    (first-zeros (count .result) 8064 (count .ensures .1) ∙ ap (λ (n : ℕ). replicate n 0) (count .ensures .0))
+    (first-zeros (count .result) tableLimit (count .ensures .1) ∙ ap (λ (n : ℕ). replicate n 0) (count .ensures .0))
 
 pub slice-layer-spec : {M : Type 1} → statement M
 slice-layer-spec =
