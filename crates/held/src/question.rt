@@ -1,5 +1,7 @@
 // Question 7, questions 1 to 7 in order, and 15 after them.
 use super::walk::held_contour;
+use contour::EdgeSet;
+use contour::WORDS;
 use contour::first_sticks;
 use contour::next_first;
 use grid::Answer;
@@ -20,7 +22,7 @@ ghost use Rattle.held.specs.Held.{heldAnswer};
 ghost use Rattle.held.specs.Questions.{entryQuestions, heldQuestions, keptQuestions};
 
 // Question 7, from the set of first sticks.
-fn ask_contours(size: Size, bitmap: &[u8], table: &[u16], set: &[u64; 16368]) -> Answer
+fn ask_contours(size: Size, bitmap: &[u8], table: &[u16], set: &EdgeSet) -> Answer
     requires { ⌜ Sound (layerOf size (now bitmap)) ⌝ }
     requires { ⌜ length (now table) ≡ edgeCount size ⌝ }
     requires { ⌜ FirstSet (layerOf size (now bitmap)) (now set) ⌝ }
@@ -39,7 +41,7 @@ fn ask_contours(size: Size, bitmap: &[u8], table: &[u16], set: &[u64; 16368]) ->
 
 // Questions 7 and 15, of a layer that passed 1 to 6. Where nothing is removed every drawn edge is a single link, so the layer is held: the
 // walk for question 7 is made only if 15 is answered no.
-fn ask_kept(size: Size, bitmap: &[u8], table: &[u16], set: &[u64; 16368]) -> Answer
+fn ask_kept(size: Size, bitmap: &[u8], table: &[u16], set: &EdgeSet) -> Answer
     requires { ⌜ Sound (layerOf size (now bitmap)) ⌝ }
     requires { ⌜ length (now table) ≡ edgeCount size ⌝ }
     requires { ⌜ entriesAnswer (layerOf size (now bitmap)) (now table) ≡ Yes ⌝ }
@@ -69,7 +71,7 @@ fn ask_six(size: Size, bitmap: &[u8], table: &[u16]) -> Answer
 }
 
 // Questions 1 to 7. Where all are answered yes, the set is that of the first sticks, for what the call does next.
-pub fn ask_held_firsts(size: Size, bitmap: &[u8], table: &[u16], set: &mut [u64; 16368]) -> Answer
+pub fn ask_held_firsts(size: Size, bitmap: &[u8], table: &[u16], set: &mut EdgeSet) -> Answer
     requires { ⌜ Empty (now set) ⌝ }
     ensures { λ r. ⌜ r ≡ firstNo (heldQuestions (layerOf size (now (bitmap .entry))) (now (table .entry))) ⌝ }
     ensures { λ r. ⌜ (r ≡ Yes → FirstSet (layerOf size (now (bitmap .entry))) (now (set .exit))) ⌝ }
@@ -83,7 +85,7 @@ pub fn ask_held_firsts(size: Size, bitmap: &[u8], table: &[u16], set: &mut [u64;
 }
 
 // Questions 1 to 7 and 15, likewise.
-pub fn ask_kept_firsts(size: Size, bitmap: &[u8], table: &[u16], set: &mut [u64; 16368]) -> Answer
+pub fn ask_kept_firsts(size: Size, bitmap: &[u8], table: &[u16], set: &mut EdgeSet) -> Answer
     requires { ⌜ Empty (now set) ⌝ }
     ensures { λ r. ⌜ r ≡ firstNo (keptQuestions (layerOf size (now (bitmap .entry))) (now (table .entry))) ⌝ }
     ensures { λ r. ⌜ (r ≡ Yes → FirstSet (layerOf size (now (bitmap .entry))) (now (set .exit))) ⌝ }
@@ -100,6 +102,6 @@ pub fn ask_kept_firsts(size: Size, bitmap: &[u8], table: &[u16], set: &mut [u64;
 pub fn ask_layer_held(size: Size, bitmap: &[u8], table: &[u16]) -> Answer
     ensures { λ r. ⌜ r ≡ firstNo (heldQuestions (layerOf size (now (bitmap .entry))) (now (table .entry))) ⌝ }
 {
-    let mut set: [u64; 16368] = [0; 16368];
+    let mut set: EdgeSet = [0; WORDS];
     ask_held_firsts(size, bitmap, table, &mut set)
 }

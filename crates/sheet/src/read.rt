@@ -2,6 +2,8 @@
 use super::read_fill::fill_table;
 use super::read_held::ask_described;
 use super::read_walk::ask_sheet;
+use contour::EdgeSet;
+use contour::WORDS;
 use contour::first_sticks;
 use grid::Answer;
 use grid::Refusal;
@@ -22,7 +24,7 @@ pub enum SheetRead {
 }
 
 // Questions 8 and 7, from the set of first sticks.
-fn ask_both(size: Size, bitmap: &[u8], sheet: &[u8], set: &[u64; 16368]) -> Answer
+fn ask_both(size: Size, bitmap: &[u8], sheet: &[u8], set: &EdgeSet) -> Answer
     requires { ⌜ Sound (layerOf size (now bitmap)) ⌝ }
     requires { ⌜ FirstSet (layerOf size (now bitmap)) (now set) ⌝ }
     ensures { λ r. ⌜ r ≡ firstNo (sheetQuestions (layerOf size (now (bitmap .entry))) (now (sheet .entry))) ⌝ }
@@ -40,7 +42,7 @@ fn read_against(size: Size, bitmap: &[u8], table: &mut [u16], sheet: &[u8]) -> S
     requires { ⌜ length (now table) ≡ edgeCount size ⌝ }
     ensures { λ r. ⌜ outcome r (now (table .exit)) ≡ answered (layerOf size (now (bitmap .entry))) (now (table .entry)) (now (sheet .entry)) ⌝ }
 {
-    let mut set: [u64; 16368] = [0; 16368];
+    let mut set: EdgeSet = [0; WORDS];
     first_sticks(size, bitmap, &mut set);
     let answer = ask_both(size, bitmap, sheet, &set);
     match answer {

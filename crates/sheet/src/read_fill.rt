@@ -3,6 +3,7 @@ use super::command::CONTOUR_BYTES;
 use super::command::SIZE_BYTES;
 use super::command::VERTEX_BYTES;
 use super::read_command::entry_from;
+use contour::EdgeSet;
 use contour::next_first;
 use contour::same_edge;
 use grid::Edge;
@@ -65,7 +66,7 @@ fn store_vertices(
 }
 
 // Stores the vertices of all contours, from the set of first sticks.
-fn store_contours(size: Size, bitmap: &[u8], table: &mut [u16], sheet: &[u8], set: &[u64; 16368])
+fn store_contours(size: Size, bitmap: &[u8], table: &mut [u16], sheet: &[u8], set: &EdgeSet)
     requires { ⌜ Sound (layerOf size (now bitmap)) ⌝ }
     requires { ⌜ FirstSet (layerOf size (now bitmap)) (now set) ⌝ }
     requires { ⌜ sheetAnswer (layerOf size (now bitmap)) (now sheet) ≡ Yes ⌝ }
@@ -89,7 +90,7 @@ fn store_contours(size: Size, bitmap: &[u8], table: &mut [u16], sheet: &[u8], se
 }
 
 // Writes the table that the sheet describes, from the set of first sticks.
-pub fn fill_table(size: Size, bitmap: &[u8], table: &mut [u16], sheet: &[u8], set: &[u64; 16368])
+pub fn fill_table(size: Size, bitmap: &[u8], table: &mut [u16], sheet: &[u8], set: &EdgeSet)
     requires { ⌜ Sound (layerOf size (now bitmap)) ⌝ }
     requires { ⌜ FirstSet (layerOf size (now bitmap)) (now set) ⌝ }
     requires { ⌜ sheetAnswer (layerOf size (now bitmap)) (now sheet) ≡ Yes ⌝ }

@@ -6,6 +6,7 @@ use super::command::VERTEX_BYTES;
 use chord::Position;
 use chord::crosses_run;
 use chord::position_of;
+use contour::EdgeSet;
 use contour::next_first;
 use contour::same_edge;
 use grid::Answer;
@@ -152,7 +153,7 @@ fn held_contour(size: Size, bitmap: &[u8], sheet: &[u8], start: usize, first: Ed
 }
 
 // Question 7, from the set of first sticks.
-pub fn ask_described(size: Size, bitmap: &[u8], sheet: &[u8], set: &[u64; 16368]) -> Answer
+pub fn ask_described(size: Size, bitmap: &[u8], sheet: &[u8], set: &EdgeSet) -> Answer
     requires { ⌜ Sound (layerOf size (now bitmap)) ⌝ }
     requires { ⌜ FirstSet (layerOf size (now bitmap)) (now set) ⌝ }
     requires { ⌜ sheetAnswer (layerOf size (now bitmap)) (now sheet) ≡ Yes ⌝ }

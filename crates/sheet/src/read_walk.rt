@@ -6,6 +6,7 @@ use super::read_command::has_contour;
 use super::read_command::has_end;
 use super::read_command::has_size;
 use super::read_command::has_vertex;
+use contour::EdgeSet;
 use contour::next_first;
 use contour::same_edge;
 use grid::Answer;
@@ -85,7 +86,7 @@ fn ask_end(sheet: &[u8], i: usize) -> Answer
 }
 
 // The contours in order, and the end.
-fn ask_contours(size: Size, bitmap: &[u8], sheet: &[u8], set: &[u64; 16368]) -> Answer
+fn ask_contours(size: Size, bitmap: &[u8], sheet: &[u8], set: &EdgeSet) -> Answer
     requires { ⌜ Sound (layerOf size (now bitmap)) ⌝ }
     requires { ⌜ FirstSet (layerOf size (now bitmap)) (now set) ⌝ }
     requires { ⌜ 5 ≤ length (now sheet) ⌝ }
@@ -106,7 +107,7 @@ fn ask_contours(size: Size, bitmap: &[u8], sheet: &[u8], set: &[u64; 16368]) -> 
 }
 
 // Question 8, from the set of first sticks.
-pub fn ask_sheet(size: Size, bitmap: &[u8], sheet: &[u8], set: &[u64; 16368]) -> Answer
+pub fn ask_sheet(size: Size, bitmap: &[u8], sheet: &[u8], set: &EdgeSet) -> Answer
     requires { ⌜ Sound (layerOf size (now bitmap)) ⌝ }
     requires { ⌜ FirstSet (layerOf size (now bitmap)) (now set) ⌝ }
     ensures { λ r. ⌜ r ≡ sheetAnswer (layerOf size (now (bitmap .entry))) (now (sheet .entry)) ⌝ }

@@ -3,6 +3,8 @@ use super::command::SIZE_BYTES;
 use super::write_bytes::put_byte;
 use super::write_bytes::put_size;
 use super::write_walk::put_contours;
+use contour::EdgeSet;
+use contour::WORDS;
 use contour::contour_count;
 use grid::Answer;
 use grid::Refusal;
@@ -30,7 +32,7 @@ pub enum Written {
 }
 
 // "Its length is 6 + 6×contours + 2×vertices", of a layer whose first sticks are in the set.
-fn sheet_length(size: Size, bitmap: &[u8], set: &[u64; 16368]) -> usize
+fn sheet_length(size: Size, bitmap: &[u8], set: &EdgeSet) -> usize
     requires { ⌜ Sound (layerOf size (now bitmap)) ⌝ }
     requires { ⌜ FirstSet (layerOf size (now bitmap)) (now set) ⌝ }
     ensures { λ r. ⌜ r ≡ 6 + 6 * contourCount (layerOf size (now (bitmap .entry))) + 2 * stickCount (layerOf size (now (bitmap .entry))) ⌝ }
@@ -39,7 +41,7 @@ fn sheet_length(size: Size, bitmap: &[u8], set: &[u64; 16368]) -> usize
 }
 
 // Stores the sheet of a layer and its table.
-fn put_sheet(size: Size, bitmap: &[u8], table: &[u16], set: &[u64; 16368], sheet: &mut [u8])
+fn put_sheet(size: Size, bitmap: &[u8], table: &[u16], set: &EdgeSet, sheet: &mut [u8])
     requires { ⌜ Sound (layerOf size (now bitmap)) ⌝ }
     requires { ⌜ length (now table) ≡ edgeCount size ⌝ }
     requires { ⌜ FirstSet (layerOf size (now bitmap)) (now set) ⌝ }
@@ -52,13 +54,7 @@ fn put_sheet(size: Size, bitmap: &[u8], table: &[u16], set: &[u64; 16368], sheet
 }
 
 // Writes the sheet of a layer that passed questions 1 to 7, if the output is long enough.
-fn write_held(
-    size: Size,
-    bitmap: &[u8],
-    table: &[u16],
-    set: &[u64; 16368],
-    sheet: &mut [u8],
-) -> Written
+fn write_held(size: Size, bitmap: &[u8], table: &[u16], set: &EdgeSet, sheet: &mut [u8]) -> Written
     requires { ⌜ firstNo (heldQuestions (layerOf size (now bitmap)) (now table)) ≡ Yes ⌝ }
     requires { ⌜ FirstSet (layerOf size (now bitmap)) (now set) ⌝ }
     ensures { λ r. ⌜ outcome r (now (sheet .exit)) ≡ writeOf (layerOf size (now (bitmap .entry))) (now (table .entry)) (now (sheet .entry)) ⌝ }
@@ -79,7 +75,7 @@ pub fn write_sheet(w: u16, h: u16, bitmap: &[u8], table: &[u16], sheet: &mut [u8
         width: w as usize,
         height: h as usize,
     };
-    let mut set: [u64; 16368] = [0; 16368];
+    let mut set: EdgeSet = [0; WORDS];
     let answer = held::ask_held_firsts(size, bitmap, table, &mut set);
     match answer {
         Answer::Yes => write_held(size, bitmap, table, &set, sheet),

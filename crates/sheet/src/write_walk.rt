@@ -2,6 +2,7 @@
 use super::command::CONTOUR_BYTES;
 use super::write_bytes::put_first;
 use super::write_bytes::put_vertex;
+use contour::EdgeSet;
 use contour::next_first;
 use contour::same_edge;
 use grid::Edge;
@@ -74,7 +75,7 @@ pub fn put_contours(
     size: Size,
     bitmap: &[u8],
     table: &[u16],
-    set: &[u64; 16368],
+    set: &EdgeSet,
     sheet: &mut [u8],
     start: usize,
 ) -> usize
