@@ -1,13 +1,51 @@
-/* Puzhenim: contours of a sampled layer, proved correct. Link with libpuzhenim.a.
+/* Puzhenim: contours of a sampled layer, proved correct. Link with libpuzhenim.a (x86-64).
  *
- * Every function returns 0 if the call is done, else the number of the question that was answered no (1 to 15), and writes four numbers to
- * `figures`: the place that goes with a refusal, then the call's own figures, 0 for the rest. With fewer than four figures lent it returns 14
- * and touches nothing. A refusal leaves every buffer as found, but for the earlier commands of a roll.
+ * Every function returns 0 if the call is done, else the number of the question that was answered no (1 to 15, below), and writes four
+ * figures: the place that goes with a refusal, 0 if there is none, then the call's own, 0 for the rest. All figures of a refused call but the
+ * place are 0, except that figures[1] of a roll that is refused by 9 to 13 is the count of commands done. With fewer than four figures lent a
+ * call returns 14 before any question and touches nothing; figures past the fourth stay.
  *
- * w, h          columns and rows, 2 to 1024 each
- * bitmap        h rows of (w + 7) / 8 bytes; sample (c, r) is bit c % 8 of byte c / 8 of row r; row 0 is lowest
- * table         the hold table: (w - 1) * h + w * (h - 1) entries
- * A slice is a pointer and a length in elements. */
+ * A refusal leaves every other buffer as found, but for the earlier commands of a roll, which stay done. Outputs past the answer's end stay.
+ *
+ * What the caller owes: a length counts elements; a pointer is valid for so many elements, aligned for its type, and not null unless the
+ * length is 0; a buffer that is not const overlaps no other of the same call, figures included. Nothing else: every value and every length
+ * is allowed. A call allocates nothing and keeps nothing, so calls may run at once where none writes a buffer that another is lent.
+ *
+ * w, h       columns and rows, 2 to 1024 each
+ * bitmap     h * ((w + 7) / 8) bytes; sample (c, r) is bit c % 8, least significant first, of byte r * ((w + 7) / 8) + c / 8; 1 is inside;
+ *            row 0 is lowest; spare bits are 0 and border samples outside
+ * table      the hold table, an entry for each grid edge: (w - 1) * h + w * (h - 1). Edge (c, r) to (c + 1, r) has entry r * (w - 1) + c,
+ *            edge (c, r) to (c, r + 1) entry h * (w - 1) + r * w + c. 0: no stick, its samples are alike; 1 to 255: a stick with a kept
+ *            vertex at that offset from (c, r), in 1/256 of the pitch; 257 to 511: 256 and the offset that a removed vertex last had
+ * roll       S and a stick and an offset slides a vertex, X and a stick removes one, E ends the roll: 7, 6 and 1 bytes. A stick is kind
+ *            (0 from (c, r) to (c + 1, r), 1 to (c, r + 1)), c, r: 5 bytes, c and r of 16 bits, low byte first
+ * sheet      L, w, h (16 bits, low byte first); for each contour C and its first stick, then K (kept) or R (removed) and the offset of
+ *            each vertex; E
+ *
+ * The questions, in this order, and the place of a refusal. pz_counts and pz_trace put 1 to 5, pz_smooth and pz_simplify 1 to 7 and 15,
+ * pz_roll 1 to 8 and for each command those of 9 to 13 that it has, pz_write_sheet and pz_plan 1 to 7 and 14, pz_read_sheet 1 to 5, 8 and
+ * then 7, pz_sample 1 to 4.
+ *
+ *  1  Are w and h 2 to 1024? (0)
+ *  2  Is the bitmap's length exact? (0)
+ *  3  Are spare bits 0? (lowest byte index)
+ *  4  Are border samples outside? (lowest r * w + c)
+ *  5  Is the table's length exact? (0)
+ *  6  Is each entry 0 off sticks, and 1 to 255 or 257 to 511 on them? (lowest entry)
+ *  7  Has each contour three kept vertices, and does each edge drawn between kept ones cross every removed stick between? (entry of the
+ *     first stick of the first contour of which it is not so)
+ *  8  Is the roll or sheet well formed to its last byte, a sheet also that of this bitmap with offsets 1 to 255? (byte index where the first
+ *     command starts that is wrong, cut short, missing or extra)
+ *  9  Does the named stick lie in the grid (a kind above 1 does not) and carry a kept vertex? (9 to 13: byte index where the command starts)
+ * 10  Is the new offset 1 to 255?
+ * 11  Does each redrawn edge cross its removed sticks, the one being removed included?
+ * 12  Does each such vertex slide by at most t along its stick to the redrawn edge?
+ * 13  Are three kept vertices left?
+ * 14  Does each output hold the whole answer, and are there four figures? (0)
+ * 15  Is every vertex kept? (lowest entry of a removed one)
+ *
+ * Stack that a call needs at most, in units of 1024 bytes: pz_simplify 272, pz_trace and pz_sample 1, the others 132. This is measured on the
+ * archive, not proved. */
 #ifndef PUZHENIM_H
 #define PUZHENIM_H
 
@@ -18,15 +56,15 @@
 extern "C" {
 #endif
 
-/* figures: place, inside samples, sticks, contours */
+/* Of the table only the length is looked at. figures: place, inside samples, sticks, contours */
 uint32_t pz_counts(uint16_t w, uint16_t h, const uint8_t *bitmap, size_t bitmap_len, const uint16_t *table, size_t table_len,
                    uint64_t *figures, size_t figures_len);
 
-/* Every stick kept at 128. figures: place */
+/* Every stick kept at 128, whatever the table held. figures: place */
 uint32_t pz_trace(uint16_t w, uint16_t h, const uint8_t *bitmap, size_t bitmap_len, uint16_t *table, size_t table_len,
                   uint64_t *figures, size_t figures_len);
 
-/* At most `limit` passes. figures: place, passes, total of the last, 1 if settled */
+/* At most `limit` passes. figures: place, passes, total of the last in 1/256 of the pitch, 1 if settled */
 uint32_t pz_smooth(uint16_t w, uint16_t h, const uint8_t *bitmap, size_t bitmap_len, uint16_t *table, size_t table_len,
                    uint16_t limit, uint64_t *figures, size_t figures_len);
 
@@ -34,7 +72,7 @@ uint32_t pz_smooth(uint16_t w, uint16_t h, const uint8_t *bitmap, size_t bitmap_
 uint32_t pz_simplify(uint16_t w, uint16_t h, const uint8_t *bitmap, size_t bitmap_len, uint16_t *table, size_t table_len,
                      uint8_t t, uint64_t *figures, size_t figures_len);
 
-/* Applies an edit roll with the tolerance t. figures: place, commands done */
+/* Applies an edit roll with the tolerance t, up to the first edit that is refused. figures: place, commands done, E not counted */
 uint32_t pz_roll(uint16_t w, uint16_t h, const uint8_t *bitmap, size_t bitmap_len, uint16_t *table, size_t table_len,
                  const uint8_t *roll, size_t roll_len, uint8_t t, uint64_t *figures, size_t figures_len);
 
@@ -46,7 +84,9 @@ uint32_t pz_write_sheet(uint16_t w, uint16_t h, const uint8_t *bitmap, size_t bi
 uint32_t pz_read_sheet(uint16_t w, uint16_t h, const uint8_t *bitmap, size_t bitmap_len, uint16_t *table, size_t table_len,
                        const uint8_t *sheet, size_t sheet_len, uint64_t *figures, size_t figures_len);
 
-/* Writes the planner's list: one byte an item, 'M', 'l' or 'Z', and x, y of each point in samples. figures: place, items, floats */
+/* Writes the planner's list: for each contour an 'M' and the first kept vertex, an 'l' and a vertex for each further one, a 'Z' without any;
+ * x and y in samples. kept + contours items and 2 * kept floats, at most sticks + contours and 2 * sticks. The order of the contours is left
+ * open. figures: place, items, floats */
 uint32_t pz_plan(uint16_t w, uint16_t h, const uint8_t *bitmap, size_t bitmap_len, const uint16_t *table, size_t table_len,
                  uint8_t *items, size_t items_len, double *points, size_t points_len, uint64_t *figures, size_t figures_len);
 

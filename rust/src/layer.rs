@@ -1,6 +1,6 @@
 //! A layer and the calls on it.
 
-use crate::{raw, Edge, List, Refusal};
+use crate::{raw, Edge, List, Refusal, View};
 
 /// A sampled layer: columns and rows, 2 to 1,024 each, and the bitmap, (width + 7) / 8 bytes a row, row 0 the lowest. Sample (c, r) is
 /// bit c % 8, least significant first, of byte c / 8 of row r; 1 is inside. Any values may be put here: the calls ask whether they are
@@ -55,6 +55,9 @@ pub struct Planned {
     pub floats: u64,
 }
 
+/// The most samples that a side has.
+const MOST: u16 = 1024;
+
 /// The call's own figures, or its refusal. Only a roll has a figure where it is refused, the commands done.
 fn accepted((number, [place, one, two, three]): raw::Answer) -> Result<[u64; 3], Refusal> {
     match number {
@@ -63,7 +66,7 @@ fn accepted((number, [place, one, two, three]): raw::Answer) -> Result<[u64; 3],
     }
 }
 
-impl Layer<'_> {
+impl<'a> Layer<'a> {
     /// How many grid edges there are, each with an entry in the hold table: (width - 1) × height + width × (height - 1).
     ///
     /// ```
@@ -96,14 +99,20 @@ impl Layer<'_> {
         }
     }
 
-    /// A hold table of the right length, all 0.
+    /// A hold table of the right length, all 0. It is empty where a side is not 2 to 1,024: question 1 then refuses every call, whatever
+    /// the table.
     ///
     /// ```
     /// # use puzhenim::Layer;
     /// assert_eq!(Layer { width: 3, height: 3, bitmap: &[0, 2, 0] }.new_table(), [0; 12]);
+    /// assert_eq!(Layer { width: 65535, height: 65535, bitmap: &[] }.new_table(), []);
     /// ```
     pub fn new_table(&self) -> Vec<u16> {
-        vec![0; self.edges()]
+        let sides = 2..=MOST;
+        match sides.contains(&self.width) && sides.contains(&self.height) {
+            true => vec![0; self.edges()],
+            false => Vec::new(),
+        }
     }
 
     /// Counts the inside samples, the sticks and the contours. Of the table only the length is looked at. Questions 1 to 5.
@@ -209,6 +218,7 @@ impl Layer<'_> {
     /// ```
     pub fn sheet(&self, table: &[u16]) -> Result<Vec<u8>, Refusal> {
         let counts = self.counts(table)?;
+        // A layer has at most 2,095,104 sticks, and fewer contours.
         let mut sheet = vec![0; (6 + 6 * counts.contours + 2 * counts.sticks) as usize];
         self.write_sheet(table, &mut sheet)?;
         Ok(sheet)
@@ -269,7 +279,20 @@ impl Layer<'_> {
         Ok(List { items, points })
     }
 
-    /// Whether the sample is inside; off the grid it is not. Questions 1 to 4.
+    /// A view for reading many samples. Questions 1 to 4, once.
+    ///
+    /// ```
+    /// # use puzhenim::{Layer, Refusal};
+    /// let layer = Layer { width: 3, height: 3, bitmap: &[0, 2, 0] };
+    /// assert!(layer.view()?.sample(1, 1));
+    /// assert_eq!(Layer { width: 1, ..layer }.view(), Err(Refusal::BadSides));
+    /// # Ok::<(), puzhenim::Refusal>(())
+    /// ```
+    pub fn view(&self) -> Result<View<'a>, Refusal> {
+        View::new(*self)
+    }
+
+    /// Whether the sample is inside; off the grid it is not. Questions 1 to 4, each time: see [`Layer::view`] for reading many.
     ///
     /// ```
     /// # use puzhenim::Layer;

@@ -2,8 +2,8 @@
 //!
 //! A [`Layer`] is a bitmap of inside and outside samples. Its contours are held in a table that has an entry for each grid edge: 0 where
 //! the edge is no stick, else the vertex on the stick (see [`Vertex`]). Every call is put questions in a fixed order; the first that is
-//! answered no refuses the call with a [`Refusal`] and leaves every buffer as found, but for the earlier commands of a roll. No call
-//! has a precondition, and none panics.
+//! answered no refuses the call with a [`Refusal`] and leaves every buffer as found, but for the earlier commands of a roll. No function
+//! has a precondition, and none panics. A call needs at most 272 kB of stack, so that a thread of 512 kB runs every one.
 //!
 //! ```
 //! use puzhenim::Layer;
@@ -25,8 +25,10 @@ mod list;
 #[allow(unsafe_code)]
 mod raw;
 mod refusal;
+mod view;
 
 pub use edge::{Edge, Vertex};
 pub use layer::{Counts, Layer, Planned, Simplified, Smoothed};
 pub use list::{Item, List};
 pub use refusal::Refusal;
+pub use view::View;

@@ -22,7 +22,7 @@ pub enum Item {
 }
 
 impl List {
-    /// The items with their points.
+    /// The items with their points, up to the first that has none left.
     ///
     /// ```
     /// # use puzhenim::{Item, List};
@@ -32,9 +32,13 @@ impl List {
     /// ```
     pub fn iter(&self) -> impl Iterator<Item = Item> + '_ {
         let mut points = self.points.chunks_exact(2);
+        let mut point = move || match points.next() {
+            Some(&[x, y]) => Some((x, y)),
+            _ => None,
+        };
         self.items.iter().map_while(move |item| match item {
-            b'M' => points.next().map(|p| Item::Move { x: p[0], y: p[1] }),
-            b'l' => points.next().map(|p| Item::Line { x: p[0], y: p[1] }),
+            b'M' => point().map(|(x, y)| Item::Move { x, y }),
+            b'l' => point().map(|(x, y)| Item::Line { x, y }),
             _ => Some(Item::Close),
         })
     }

@@ -1,10 +1,13 @@
-//! The exported functions of libpuzhenim.a, each once more as a safe function over slices. All unsafe code of the crate is here.
+//! A safe function over slices for each exported function of libpuzhenim.a. All unsafe code of the crate is here.
 //!
-//! What makes every call sound: each pointer and length are those of a slice that lives as long as the call, an output slice is lent
-//! exclusively, and the library, which has no precondition on any argument, reads and writes within the slices it is lent and keeps
-//! none of them.
+//! What makes every call sound: each pointer and length are those of a slice that lives as long as the call, so it is aligned and not
+//! null; an output slice is lent exclusively, so it overlaps no other; and the library, which allows every value and every length, reads
+//! and writes within the slices it is lent and keeps none of them.
 
 use crate::Layer;
+
+// The archive is for x86-64: a figure is a `usize`, and sums and products of 16-bit sides do not wrap.
+const _: () = assert!(usize::BITS == 64);
 
 /// The place that goes with a refusal, then the call's own figures.
 pub type Figures = [u64; 4];

@@ -51,7 +51,7 @@ pub enum Refusal {
 use Refusal::*;
 
 impl Refusal {
-    /// The refusal of this number and place, for a command of a roll after so many done. The library answers no other number.
+    /// The refusal of this number and place, for a command of a roll after so many done. A number is 1 to 15, as each call promises.
     pub(crate) fn new(number: u32, place: u64, done: u64) -> Refusal {
         match number {
             1 => BadSides,
@@ -68,8 +68,7 @@ impl Refusal {
             12 => BeyondTolerance { byte: place, done },
             13 => TooFewKept { byte: place, done },
             14 => ShortOutput,
-            15 => SomeRemoved { entry: place },
-            _ => panic!("question {} is not one of the library's", number),
+            _ => SomeRemoved { entry: place },
         }
     }
 
@@ -155,7 +154,7 @@ impl fmt::Display for Refusal {
             _ => {}
         }
         if let Some(done) = self.done() {
-            write!(f, ": command {} of the roll, at byte {}", done + 1, self.place())?;
+            write!(f, ": command {} of the roll, at byte {}", done.saturating_add(1), self.place())?;
         }
         write!(f, " (question {})", self.number())
     }

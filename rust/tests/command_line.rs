@@ -174,6 +174,9 @@ fn wrong_pictures_are_refused() {
     assert_eq!(refused(b"L\x03\0\x03"), "neither a portable bitmap (P1 or P4) nor a layer file");
     assert_eq!(refused(&[b"P4 70000 2 ", &[0; 17500][..]].concat()), "a side is not 2 to 1024 samples (question 1)");
     assert_eq!(refused(&[b"P4 1025 2 ", &[0; 258][..]].concat()), "a side is not 2 to 1024 samples (question 1)");
+    assert_eq!(refused(b"L\xFF\xFF\xFF\xFF"), "a side is not 2 to 1024 samples (question 1)");
+    assert_eq!(refused(b"L\0\0\0\0"), "a side is not 2 to 1024 samples (question 1)");
+    assert_eq!(refused(b"L\x03\0\x03\0\0"), "the bitmap has another length than its sides ask for (question 2)");
 }
 
 #[test]
@@ -321,4 +324,18 @@ fn files_that_cannot_be_read_or_written() {
     assert!(folder.fails(1, &["slice", "none", "-o", "sheet"]).starts_with("puzhenim: none: "));
     assert!(folder.fails(1, &["slice", &example("sample.layer"), "-o", "none/sheet"]).starts_with("puzhenim: none/sheet: "));
     assert_eq!(folder.fails(1, &["slice", &example("sample.layer"), "-o", "."]), "puzhenim: .: is a folder\n");
+}
+
+#[test]
+fn where_nothing_can_be_written_the_status_tells() {
+    let full = || fs::OpenOptions::new().write(true).open("/dev/full").unwrap();
+    let run = |word: &str| {
+        let mut command = Command::new(env!("CARGO_BIN_EXE_puzhenim"));
+        command.arg(word);
+        command
+    };
+    assert_eq!(run("cut").stderr(full()).status().unwrap().code(), Some(2));
+    let output = run("--version").stdout(full()).output().unwrap();
+    assert_eq!(output.status.code(), Some(1));
+    assert!(text(&output.stderr).starts_with("puzhenim: standard output: "));
 }

@@ -1,4 +1,5 @@
-/* The exported library from C: the paper's single sample, from the bitmap to its sheet, and a refusal. Silent if all is right. */
+/* The exported library from C: the paper's single sample, from the bitmap to its sheet, and the figures of refusals as the header has them.
+ * Silent if all is right. */
 #include "../../include/puzhenim.h"
 #include <stdio.h>
 #include <string.h>
@@ -6,6 +7,8 @@
 #define LAYER 3, 3, bitmap, sizeof bitmap
 #define TABLE table, 12
 #define FIGURES figures, 4
+
+#define ARE(a, b, c, d) (figures[0] == (a) && figures[1] == (b) && figures[2] == (c) && figures[3] == (d))
 
 static int expect(int right, const char *what) {
     if (!right) fprintf(stderr, "cases.c: %s\n", what);
@@ -15,6 +18,7 @@ static int expect(int right, const char *what) {
 int main(void) {
     const uint8_t bitmap[3] = {0, 2, 0}, spare[3] = {0, 10, 0};
     const uint8_t expected[20] = {0x4C, 3, 0, 3, 0, 0x43, 0, 0, 0, 1, 0, 0x4B, 255, 0x4B, 255, 0x4B, 1, 0x4B, 1, 0x45};
+    const uint8_t edits[14] = {'S', 0, 0, 0, 1, 0, 128, 'X', 0, 0, 0, 1, 0, 'E'};
     uint16_t table[12] = {7}, read[12] = {9};
     uint8_t sheet[21], items[8];
     double points[8];
@@ -33,6 +37,12 @@ int main(void) {
     good &= expect(pz_plan(LAYER, TABLE, items, 8, points, 8, FIGURES) == 0 && memcmp(items, "MlllZ", 5) == 0, "the list");
     good &= expect(points[0] == 255 / 256.0 && points[1] == 1.0, "its first point");
     good &= expect(pz_sample(LAYER, 1, 1, FIGURES) == 0 && figures[1] == 1, "a sample");
-    good &= expect(pz_trace(3, 3, spare, sizeof spare, TABLE, FIGURES) == 3 && figures[0] == 1, "spare bits");
+    good &= expect(pz_trace(3, 3, spare, sizeof spare, TABLE, FIGURES) == 3 && ARE(1, 0, 0, 0), "spare bits");
+    good &= expect(pz_roll(LAYER, TABLE, edits, sizeof edits, 255, FIGURES) == 11 && ARE(7, 1, 0, 0), "an edit after one that is done");
+    good &= expect(table[2] == 128 && table[7] == 255, "the table after it");
+    good &= expect(pz_counts(LAYER, NULL, 0, FIGURES) == 5 && ARE(0, 0, 0, 0), "no table");
+    good &= expect(pz_roll(LAYER, TABLE, NULL, 0, 0, FIGURES) == 8 && ARE(0, 0, 0, 0), "no roll");
+    good &= expect(pz_plan(LAYER, TABLE, items, 8, NULL, 0, FIGURES) == 14 && ARE(0, 0, 0, 0), "no room for points");
+    good &= expect(pz_sample(LAYER, 1, 1, NULL, 0) == 14, "no figures");
     return !good;
 }

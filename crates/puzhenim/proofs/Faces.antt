@@ -1,4 +1,4 @@
--- The two ways that an exported function goes: too few figures, or the call and its report stored. Every function cites these.
+-- The two cases of an exported function: too few figures, or the call and its report stored. Every function's proof cites these.
 use mathlib.Core.Path.{_≡_, sym, _∙_}
 use mathlib.Core.List.{List}
 use Prim.Native.Nat.{ℕ, _<_, _≤_}
@@ -28,7 +28,7 @@ stored-face result figures found h told same put =
       figures = (put .1 ∙ ((λ j. fourFigures (told j .report) figures) ∙ (λ j. fourFigures (result (same j) .report) figures))) i;
     })
 
--- an answer's report, from the case that the answer is
+-- the report of an answer, from the report of the case that it is
 pub told-by : {A B : Type 0} {answer case : A} {r told : Report} (result : A → Result B) (after : B)
     → r ≡ told
     → answer ≡ case

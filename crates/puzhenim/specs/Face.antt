@@ -23,7 +23,7 @@ use Rattle.view.specs.View.{sampleOf}
 use Rattle.view.specs.declared.viewing.Sampled.{Sampled}
 use Rattle.puzhenim.specs.declared.report.Report.{Report}
 
--- what a call came to: its report, and the buffers that it was lent, as it leaves them
+-- the result of a call: its report, and the buffers that it was lent, as it leaves them
 pub record Result (B : Type 0) : Type 0 where
   pub report : Report
   pub buffers : B
@@ -38,8 +38,8 @@ pub record Face (B : Type 0) : Type 0 where
 abbrev pub fourFigures : Report → List ℕ → List ℕ
 fourFigures r figures = set (set (set (set figures 0 (r .place)) 1 (r .one)) 2 (r .two)) 3 (r .three)
 
--- The face of a call that is lent these figures and finds its buffers so. Fewer than four figures give 14 before any question, and nothing
--- is touched: a rule of the exported face alone.
+-- The face of a call, from the figures that it is lent, its buffers as found and its result. Fewer than four figures give 14 before any
+-- question, and nothing is touched: a rule of the exported face alone.
 unfoldable pub face : {B : Type 0} → List ℕ → B → Result B → Face B
 face figures found result =
     cond (ltb (length figures) 4)
@@ -123,7 +123,7 @@ planResult o =
 abbrev pub planFace : Layer → List ℕ → List Edge → Outputs → List ℕ → Face Outputs
 planFace L t order out figures = face figures out (planResult (Plan.planOf L t order (out .items) (out .points)))
 
--- "The order of contours in this list is left open": there is one of which the face at exit is the face.
+-- "The order of contours in this list is left open": the face at exit is that of some order.
 pub record PlanPromised (L : Layer) (t : List ℕ) (out : Outputs) (figures : List ℕ) (exit : Face Outputs) : Type 0 where
   pub order : List Edge
   pub any : Plan.AnyOrder L order

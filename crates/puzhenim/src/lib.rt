@@ -1,5 +1,5 @@
-// The exported library: each call once more as a C function. It returns the number of the refusal, 0 if the call is done, and writes four
-// figures: the place, then the call's own in their order, 0 for the rest. A slice is a pointer and a length in elements.
+// The exported library: a C function for each call. It returns the number of the refusal, 0 if the call is done, and writes four figures: the
+// place, then the call's own in their order, 0 for the rest. A slice is a pointer and a length in elements. include/puzhenim.h declares them.
 mod report;
 
 use report::counted_report;

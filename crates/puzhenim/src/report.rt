@@ -1,4 +1,4 @@
-// What a call reports through the exported face: a number, a place and three figures, made of each call's answer and stored.
+// What an exported function reports: a number, a place and three figures, made from the answer of its call, and stored.
 use grid::Refusal;
 use planner::Planned;
 use roll::Rolled;
@@ -123,7 +123,7 @@ pub fn simplified_report(answer: Simplified) -> Report
     }
 }
 
-// Also a refused roll tells how many commands were done.
+// A refused roll also reports how many commands were done.
 pub fn rolled_report(answer: Rolled) -> Report
     ensures { λ r. ⌜ ((t : List ℕ) → record { report = r; buffers = t } ≡ rollResult (Roll.outcome answer t)) ⌝ }
 {

@@ -72,7 +72,7 @@ module _ (step undo : Edge → Edge) (L : Layer) (t : List ℕ) where
   unfolding ahead
   gap-next e k gap = record { removed = λ j l. gap .removed (suc j) (omega arith); ends = gap .ends }
 
-  -- whatever more fuel there is
+  -- with any more fuel
   pub gap-run : (n k : ℕ) (e : Edge) → k ≤ n → Gap e k → removedFrom step L t n e ≡ run walk k (step e)
   unfolding run ahead
   gap-run n zero e h gap = gap-here step L t n e (gap .ends)
@@ -88,7 +88,7 @@ module _ (step undo : Edge → Edge) (L : Layer) (t : List ℕ) where
   gap-end (suc n) (suc k) e h gap =
       kept-over step L t n e (gap .removed 0 (omega arith)) ∙ gap-end n k (step e) (omega arith) (gap-next e k gap)
 
-  -- A walk from e over removed sticks: it stands at x after so many of them.
+  -- A walk from e over removed sticks: it is at x after `gap` of them.
   pub record Passed (e x : Edge) (gap : ℕ) : Type 0 where
     pub met : ahead walk gap e ≡ x
     pub removed : (j : ℕ) → j < gap → removedAt L t (ahead walk (suc j) e) ≡ true

@@ -1,4 +1,4 @@
--- Going on from a stick over removed ones: where it stops, and that more fuel changes nothing once it has stopped at one that is not removed.
+-- A walk from a stick over removed ones: where it stops, and that more fuel changes nothing if it stops at a stick that is not removed.
 use mathlib.Core.Path.{_≡_, refl, sym, _∙_, ap}
 use mathlib.Core.Bool.{true, false, true≢false, false≢true}
 use mathlib.Core.List.{List, [], _∷_}

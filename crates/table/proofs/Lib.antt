@@ -1,4 +1,4 @@
--- Laws on the definitions of specs/ that the proofs of this crate cite.
+-- Laws on the definitions of specs/ that the proofs of this crate and of the crates above it cite.
 pub mod Runs
 pub mod Lengths
 pub mod Gaps

@@ -1,4 +1,4 @@
--- A wrong entry found among eight, in a row and in a kind is one found by its number.
+-- The first wrong entry, found by runs of eight, by rows and by kinds, is the first by number.
 use mathlib.Core.Path.{_≡_, ap, ap₂, sym, _∙_}
 use mathlib.Core.Bool.{Bool, true, false}
 use mathlib.Core.List.{List}

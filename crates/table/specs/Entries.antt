@@ -32,7 +32,7 @@ suits stick Wrong = false
 unfoldable pub tableLengthAnswer : Size → ℕ → Answer
 tableLengthAnswer size n = ask Refusal.TableLength (eqb n (edgeCount size))
 
--- questions 1 to 5, which every call on a table is asked first
+-- questions 1 to 5, which every call with a table puts first
 abbrev pub lengthQuestions : Layer → ℕ → List Answer
 lengthQuestions L n = layerQuestions L ++ (tableLengthAnswer (L .size) n ∷ [])
 
@@ -53,6 +53,6 @@ wrongOf L t vertical k = wrong (stickOf L vertical k) (getD t (kindStart (L .siz
 abbrev pub wrongIn : Layer → List ℕ → Bool → ℕ → ℕ → Bool
 wrongIn L t vertical r c = wrong (stickIn L vertical r c) (getD t (rowStart (L .size) vertical r + c) 0)
 
--- and among the entries from a place on, of which the ones of a byte say which are on sticks
+-- and among the entries from `start` on, where bit b of `marks` says whether the b-th of them is on a stick
 abbrev pub wrongFrom : List ℕ → ℕ → ℕ → ℕ → Bool
 wrongFrom t start marks b = wrong (bit marks b) (getD t (start + b) 0)

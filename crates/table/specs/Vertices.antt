@@ -30,7 +30,7 @@ offsetIn (Kept offset) = offset
 offsetIn (Removed offset) = offset
 offsetIn Wrong = 0
 
--- the same of an edge
+-- the same for an edge
 abbrev pub entryAt : Layer → List ℕ → Edge → Entry
 entryAt L t e = entryOf (getD t (number (L .size) e) 0)
 
@@ -43,8 +43,8 @@ removedAt L t e = isRemoved (entryAt L t e)
 unfoldable pub offsetAt : Layer → List ℕ → Edge → ℕ
 offsetAt L t e = offsetIn (entryAt L t e)
 
--- "A drawn edge joins two kept vertices with only removed ones between." Going on by `step` from e, at most n times: the removed sticks
--- that come first, and the stick after them, which is kept where the table passes question 6 and the contour has a kept vertex.
+-- "A drawn edge joins two kept vertices with only removed ones between." From e by `step`, at most n times: the removed sticks up to the
+-- first that is not removed, and that one, which is kept where the table passes question 6 and the contour has a kept vertex.
 unfoldable pub removedFrom : (Edge → Edge) → Layer → List ℕ → ℕ → Edge → List Edge
 removedFrom step L t zero e = []
 removedFrom step L t (suc n) e =

@@ -2,7 +2,7 @@
 ghost use mathlib.Core.Path.{_≡_};
 ghost use Rattle.table.specs.Entries.{entryOf, wrong};
 
-// What an entry says of its edge: no stick, a vertex at an offset, kept or removed, or nothing that an entry may say.
+// What an entry says of its edge: no stick, a vertex at an offset, kept or removed, or a number that no entry may have.
 pub enum Entry {
     Nothing,
     Kept(u8),

@@ -1,4 +1,4 @@
-// Questions 5, 6 and 15. For question 6 the entries are gone through eight at a time, with the byte that marks the sticks among them.
+// Questions 5, 6 and 15. For question 6 the entries are read eight at a time, with the byte that marks the sticks among them.
 use super::entry::entry_of;
 use super::entry::is_wrong;
 use super::vertex::is_removed;
@@ -26,7 +26,7 @@ fn ask_table_length(size: Size, entries: usize) -> Answer
     Answer::No(Refusal::TableLength, 0)
 }
 
-// Questions 1 to 5, of a table of so many entries.
+// Questions 1 to 5, of a table with this number of entries.
 pub fn ask_lengths(size: Size, bitmap: &[u8], entries: usize) -> Answer
     ensures { λ r. ⌜ r ≡ firstNo (lengthQuestions (layerOf size (now (bitmap .entry))) entries) ⌝ }
 {
@@ -68,7 +68,7 @@ fn first_wrong(table: &[u16], start: usize, count: usize, marks: u8) -> usize
     count
 }
 
-// The same, at once where the eight edges have no stick and their entries are all 0.
+// The same, with one test where the eight edges have no stick and their entries are all 0.
 fn first_wrong_fast(table: &[u16], start: usize, count: usize, marks: u8) -> usize
     requires { ⌜ start + count ≤ length (now table) ⌝ }
     requires { ⌜ count ≤ 8 ⌝ }

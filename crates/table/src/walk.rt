@@ -13,13 +13,13 @@ ghost use Rattle.grid.specs.Edges.{isStick, edgeCount};
 ghost use Rattle.grid.specs.Questions.{Sound};
 ghost use Rattle.table.specs.Vertices.{removedAt, gapAfter, gapBefore, nextKept, previousKept};
 
-// The other end of the drawn edge that starts, or that ends, at a kept stick, and how many removed sticks lie between.
+// The other end of the drawn edge that starts or ends at a stick, and how many removed sticks lie between.
 pub struct EdgeEnd {
     pub stick: Edge,
     pub gap: usize,
 }
 
-// The next kept stick after e. A kept stick is not removed, so the walk is back at e at the latest.
+// The next kept stick after e. As e is not removed, the walk ends when it is back at e, if not before.
 pub fn kept_after(size: Size, bitmap: &[u8], table: &[u16], e: Edge) -> EdgeEnd
     requires { ⌜ Sound (layerOf size (now bitmap)) ⌝ }
     requires { ⌜ length (now table) ≡ edgeCount size ⌝ }
@@ -41,7 +41,7 @@ pub fn kept_after(size: Size, bitmap: &[u8], table: &[u16], e: Edge) -> EdgeEnd
     EdgeEnd { stick: at, gap }
 }
 
-// The kept stick before e, in the same way.
+// The kept stick before e, by the walk back.
 pub fn kept_before(size: Size, bitmap: &[u8], table: &[u16], e: Edge) -> EdgeEnd
     requires { ⌜ Sound (layerOf size (now bitmap)) ⌝ }
     requires { ⌜ length (now table) ≡ edgeCount size ⌝ }
@@ -58,7 +58,7 @@ pub fn kept_before(size: Size, bitmap: &[u8], table: &[u16], e: Edge) -> EdgeEnd
         if !is_removed(entry_at(size, table, at)) {
             break;
         }
-        gap += 1;
+        gap += 1; // a removed stick lies between
     }
     EdgeEnd { stick: at, gap }
 }

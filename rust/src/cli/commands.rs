@@ -9,7 +9,6 @@ use crate::picture;
 use crate::progress::Progress;
 use puzhenim::{Item, List, Refusal, Vertex};
 use std::ffi::OsStr;
-use std::fmt::Write;
 use std::path::Path;
 
 /// An option of a command.
@@ -114,16 +113,12 @@ fn plan(args: &Args) -> Result<(), Failure> {
 
 /// A line an item. A coordinate is a whole number of 1/256ths of at most 12 digits, so its shortest decimal is exact.
 fn as_text(list: &List) -> String {
-    let mut text = String::new();
-    for item in list.iter() {
-        let written = match item {
-            Item::Move { x, y } => writeln!(text, "M {} {}", x, y),
-            Item::Line { x, y } => writeln!(text, "l {} {}", x, y),
-            Item::Close => writeln!(text, "Z"),
-        };
-        written.expect("a string takes all");
-    }
-    text
+    let line = |item| match item {
+        Item::Move { x, y } => format!("M {} {}\n", x, y),
+        Item::Line { x, y } => format!("l {} {}\n", x, y),
+        Item::Close => "Z\n".into(),
+    };
+    list.iter().map(line).collect()
 }
 
 fn check(args: &Args) -> Result<(), Failure> {

@@ -6,7 +6,7 @@ use std::fmt;
 use std::path::Path;
 
 pub enum Failure {
-    /// The command line is not one of ours.
+    /// The command line is wrong.
     Usage(String),
     /// A call was refused, or a file could not be read or written.
     Stopped(String),
@@ -25,7 +25,7 @@ impl Failure {
         Failure::Stopped(format!("{}: {}", Path::new(path).display(), what))
     }
 
-    /// A refusal that a file brought about, its place also by column and row.
+    /// A refusal because of a file, its place also by column and row.
     pub fn refused(path: &OsStr, layer: Layer, refusal: Refusal) -> Failure {
         Failure::of(path, format_args!("{}{}", refusal, whereabouts(layer, refusal)))
     }
@@ -34,7 +34,7 @@ impl Failure {
 fn whereabouts(layer: Layer, refusal: Refusal) -> String {
     match refusal {
         Refusal::BorderInside { sample } => {
-            let across = u64::from(layer.width);
+            let across = u64::from(layer.width.max(1));
             let (column, row) = (sample % across, sample / across);
             format!("\nThat is column {}, row {} from below. --pad adds a border of outside samples to a picture.", column, row)
         }

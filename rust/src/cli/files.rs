@@ -59,7 +59,7 @@ impl<'a> Staged<'a> {
         let temporary = beside(&target).ok_or_else(|| Failure::of(path, "is not the name of a file"))?;
         let failed = |error| Failure::of(path, error);
         let file = OpenOptions::new().write(true).create_new(true).open(&temporary).map_err(failed)?;
-        // From here on the temporary file goes if anything fails.
+        // From here on the temporary file is removed if anything fails.
         let staged = Staged::Beside { path, temporary, target: target.clone() };
         fill(file, &target, bytes).map_err(failed)?;
         Ok(staged)
@@ -77,7 +77,7 @@ impl<'a> Staged<'a> {
 impl Drop for Staged<'_> {
     fn drop(&mut self) {
         if let Staged::Beside { temporary, .. } = self {
-            // Nothing is there once the file has its name.
+            // After the renaming there is nothing to remove.
             let _ = fs::remove_file(temporary);
         }
     }
@@ -92,7 +92,7 @@ fn fill(mut file: File, target: &Path, bytes: &[u8]) -> io::Result<()> {
     file.sync_all()
 }
 
-/// A name in the same folder that no other run has.
+/// A name in the same folder that no other process takes.
 fn beside(target: &Path) -> Option<PathBuf> {
     let mut name = OsString::from(".");
     name.push(target.file_name()?);

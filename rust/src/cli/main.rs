@@ -15,6 +15,7 @@ mod progress;
 
 use failure::Failure;
 use std::ffi::OsString;
+use std::io::Write;
 use std::process::ExitCode;
 
 fn run(mut words: impl Iterator<Item = OsString>) -> Result<(), Failure> {
@@ -37,7 +38,8 @@ fn main() -> ExitCode {
     match run(std::env::args_os().skip(1)) {
         Ok(()) => ExitCode::SUCCESS,
         Err(failure) => {
-            eprintln!("puzhenim: {}", failure);
+            // If standard error cannot be written, the status alone tells.
+            let _ = writeln!(std::io::stderr(), "puzhenim: {}", failure);
             ExitCode::from(failure.status())
         }
     }

@@ -9,7 +9,8 @@ pub struct Picture {
 
 impl Picture {
     pub fn is_black(&self, column: usize, row: usize) -> bool {
-        self.rows[row * stride(self.width) + column / 8] >> (7 - column % 8) & 1 == 1
+        let byte = self.rows.get(row * stride(self.width) + column / 8);
+        byte.map_or(false, |byte| byte >> (7 - column % 8) & 1 == 1)
     }
 }
 
@@ -86,7 +87,8 @@ impl Source<'_> {
         }
     }
 
-    /// How many bytes the rows have, if at least so many bytes of the file are left.
+    /// How many bytes the packed rows take, if the file has as many bytes left as its rows take. A width is 1 or more, so a packed row takes
+    /// at least one byte, and no more than in the file.
     fn room(&self, width: usize, height: usize, bytes_a_row: usize) -> Result<usize, String> {
         match height.checked_mul(bytes_a_row) {
             Some(wanted) if wanted <= self.bytes.len() - self.at => Ok(height * stride(width)),
@@ -100,7 +102,7 @@ impl Source<'_> {
             for column in 0..width {
                 match self.token() {
                     Some(b'0') => {}
-                    Some(b'1') => row[column / 8] |= 128 >> (column % 8),
+                    Some(b'1') => row.get_mut(column / 8).into_iter().for_each(|byte| *byte |= 128 >> (column % 8)),
                     Some(_) => return Err(format!("a sample is neither 0 nor 1, at byte {}", self.at - 1)),
                     None => return Err(cut_short(width, height)),
                 }
@@ -110,9 +112,9 @@ impl Source<'_> {
     }
 
     fn raw(&mut self, width: usize, height: usize) -> Result<Vec<u8>, String> {
-        let end = self.at + self.room(width, height, stride(width))?;
-        let rows = self.bytes[self.at..end].to_vec();
-        self.at = end;
+        let length = self.room(width, height, stride(width))?;
+        let rows: Vec<u8> = self.bytes.iter().skip(self.at).take(length).copied().collect();
+        self.at += length;
         Ok(rows)
     }
 }

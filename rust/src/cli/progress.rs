@@ -1,6 +1,7 @@
 //! A line on the terminal that says what a long run does.
 
 use std::fs;
+use std::io::{self, Write};
 use std::os::unix::fs::FileTypeExt;
 use std::sync::mpsc::{self, Receiver, RecvTimeoutError, Sender};
 use std::thread::{self, JoinHandle};
@@ -17,9 +18,10 @@ impl Progress {
     pub fn start() -> Progress {
         let clock = is_terminal().then(|| {
             let (steps, heard) = mpsc::channel();
-            (steps, thread::spawn(move || tick(&heard)))
+            let clock = thread::Builder::new().spawn(move || tick(&heard)).ok()?;
+            Some((steps, clock))
         });
-        Progress { clock }
+        Progress { clock: clock.flatten() }
     }
 
     /// What the run does from now on.
@@ -50,16 +52,16 @@ fn tick(heard: &Receiver<&'static str>) {
             Err(RecvTimeoutError::Disconnected) => break,
         }
         if start.elapsed() >= SECOND {
-            eprint!("\r\x1b[K{}, {} s", label, start.elapsed().as_secs());
+            let _ = write!(io::stderr(), "\r\x1b[K{}, {} s", label, start.elapsed().as_secs());
             shown = true;
         }
     }
     if shown {
-        eprint!("\r\x1b[K");
+        let _ = write!(io::stderr(), "\r\x1b[K");
     }
 }
 
-/// A character device; where that is no terminal, it is one that swallows what it gets.
+/// Whether standard error is a character device: a terminal, or a device such as /dev/null that discards what is written.
 fn is_terminal() -> bool {
     fs::metadata("/dev/stderr").map_or(false, |data| data.file_type().is_char_device())
 }

@@ -3,12 +3,12 @@
 use super::legend::Legend;
 use puzhenim::Layer;
 
-/// The grid's longer side in pixels, where a sample's pitch stays within its bounds.
+/// The grid's longer side in pixels, if the pitch is then within its bounds.
 const SIDE: f64 = 960.0;
 const FINEST: f64 = 2.0;
 const COARSEST: f64 = 64.0;
 
-/// The pitch in pixels from which on samples, and vertices, are marked.
+/// The least pitch in pixels at which samples, and vertices, are marked.
 const SAMPLES_FROM: f64 = 8.0;
 const VERTICES_FROM: f64 = 4.0;
 
@@ -36,7 +36,7 @@ pub struct Frame {
     rows: f64,
     /// The pitch in pixels.
     scale: f64,
-    /// What the texts are enlarged by, so that they can be read where the whole picture is seen.
+    /// The factor by which texts are enlarged, so that they can be read when the whole picture is shown.
     unit: f64,
 }
 
@@ -61,7 +61,7 @@ impl Frame {
         (self.scale / 8.0).clamp(1.2, 2.4)
     }
 
-    /// How wide a mark is, in pixels, that is so wide where the pitch is 16.
+    /// The width of a mark in pixels, from its width at a pitch of 16.
     pub fn mark(&self, pixels: f64) -> f64 {
         (self.scale / 16.0).min(1.5) * pixels
     }

@@ -3,7 +3,7 @@
 use super::frame::Frame;
 use super::shapes::Shapes;
 
-/// A row's height, about a letter's width and what parts two entries, in pixels.
+/// A row's height, about a letter's width and the gap between two entries, in pixels.
 const ROW: f64 = 24.0;
 const LETTER: f64 = 7.0;
 const GAP: f64 = 26.0;
@@ -56,16 +56,16 @@ impl Entry {
 impl Legend {
     /// An entry for each thing that is drawn, in rows that the page has room for.
     pub fn of(frame: &Frame, shapes: &Shapes) -> Legend {
-        let mut rows: Vec<Vec<Entry>> = vec![Vec::new()];
-        let mut used = 0.0;
+        let (mut rows, mut row, mut used) = (Vec::new(), Vec::new(), 0.0);
         for entry in entries(frame, shapes) {
             if used + entry.width() > frame.width() {
-                rows.push(Vec::new());
+                rows.push(std::mem::take(&mut row));
                 used = 0.0;
             }
             used += entry.width();
-            rows.last_mut().expect("there is a row").push(entry);
+            row.push(entry);
         }
+        rows.push(row);
         Legend { rows }
     }
 

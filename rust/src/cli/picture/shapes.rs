@@ -2,7 +2,6 @@
 
 use super::frame::Frame;
 use puzhenim::{Layer, Refusal, Vertex};
-use std::fmt::Write;
 
 type Point = (i64, i64);
 
@@ -38,7 +37,7 @@ impl Contour {
         let mut before = (0, 0);
         for (i, (x, y)) in self.points.iter().enumerate() {
             let letter = if i == 0 { 'M' } else { 'l' };
-            write!(path, "{}{} {}", letter, x - before.0, y - before.1).expect("a string takes all");
+            *path += &format!("{}{} {}", letter, x - before.0, y - before.1);
             before = (*x, *y);
         }
         path.push('z');
@@ -80,10 +79,11 @@ impl Shapes {
         while let Some(first) = rest.first() {
             let length = rest.iter().take_while(|contour| contour.is_outline() == first.is_outline()).count();
             let class = if first.is_outline() { "outline" } else { "bore" };
-            write!(svg, "<path class=\"{}\" stroke-width=\"{}\" d=\"", class, frame.pen(frame.line())).expect("a string takes all");
-            rest[..length].iter().for_each(|contour| contour.add_to(&mut svg));
+            svg += &format!("<path class=\"{}\" stroke-width=\"{}\" d=\"", class, frame.pen(frame.line()));
+            let (drawn, left) = rest.split_at(length);
+            drawn.iter().for_each(|contour| contour.add_to(&mut svg));
             svg += "\"/>\n";
-            rest = &rest[length..];
+            rest = left;
         }
         svg
     }
@@ -104,10 +104,11 @@ fn removed(layer: Layer, table: &[u16]) -> Vec<Point> {
 
 /// The inside and the outside samples.
 fn samples(layer: Layer) -> Result<(Vec<Point>, Vec<Point>), Refusal> {
+    let view = layer.view()?;
     let (mut inside, mut outside) = (Vec::new(), Vec::new());
     for row in 0..layer.height {
         for column in 0..layer.width {
-            let samples = if layer.sample(column, row)? { &mut inside } else { &mut outside };
+            let samples = if view.sample(column, row) { &mut inside } else { &mut outside };
             samples.push((256 * i64::from(column), 256 * i64::from(row)));
         }
     }
@@ -118,7 +119,7 @@ fn samples(layer: Layer) -> Result<(Vec<Point>, Vec<Point>), Refusal> {
 fn dots(class: &str, width: f64, points: impl IntoIterator<Item = Point>) -> String {
     let mut path = String::new();
     for (x, y) in points {
-        write!(path, "M{} {}h0", x, y).expect("a string takes all");
+        path += &format!("M{} {}h0", x, y);
     }
     if path.is_empty() {
         return path;

@@ -1,4 +1,4 @@
--- `report.put_report` meets its contract.
+-- `put_report` meets its contract.
 use native.Mathlib.Omega.{arith}
 use borrow.Author.Needs.{needs}
 use lib.ListN.{length-set}

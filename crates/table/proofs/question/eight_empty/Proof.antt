@@ -1,4 +1,4 @@
--- `eight_empty` meets its contract. The invariant: where nothing was found, the entries passed are 0.
+-- `eight_empty` meets its contract. The invariant: if `any` is 0, the entries passed are 0.
 use mathlib.Core.Path.{_≡_, refl, ap, sym, _∙_}
 use mathlib.Core.Bool.{true}
 use Prim.Native.Nat.{ℕ, _+_, _-_, _*_, _≤_, _<_}

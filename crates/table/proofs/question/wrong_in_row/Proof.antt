@@ -1,4 +1,4 @@
--- `wrong_in_row` meets its contract. The invariant: no entry of the row passed is wrong.
+-- `wrong_in_row` meets its contract. The invariant: no entry passed in the row is wrong.
 use mathlib.Core.Path.{_≡_, refl, ap, sym, _∙_}
 use mathlib.Core.Bool.{false}
 use Prim.Native.Nat.{ℕ, _+_, _-_, _*_, _≤_, _<_}

@@ -1,4 +1,4 @@
--- `wrong_of_kind` meets its contract. The invariant: no entry of a row passed is wrong.
+-- `wrong_of_kind` meets its contract. The invariant: no entry in the rows passed is wrong.
 use mathlib.Core.Path.{_≡_, refl, ap, sym, _∙_}
 use mathlib.Core.Bool.{false}
 use Prim.Native.Nat.{ℕ, _+_, _-_, _*_, _≤_, _<_}

@@ -1,4 +1,4 @@
--- `kept_after` meets its contract. The invariant: the walk from e has passed removed sticks alone; it is back at e before the edges are out.
+-- `kept_after` meets its contract. The invariant: the walk from e has passed only removed sticks, fewer than its contour has sticks.
 use mathlib.Core.Path.{_≡_, sym, ap, _∙_}
 use mathlib.Core.Bool.{true, false}
 use Prim.Native.Nat.{_-_}

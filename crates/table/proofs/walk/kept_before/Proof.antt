@@ -1,4 +1,4 @@
--- `kept_before` meets its contract. The invariant is that of `kept_after`, of the walk back.
+-- `kept_before` meets its contract. The invariant is that of `kept_after`, for the walk back.
 use mathlib.Core.Path.{_≡_, sym, ap, _∙_}
 use mathlib.Core.Bool.{true, false}
 use Prim.Native.Nat.{_-_}

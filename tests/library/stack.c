@@ -1,0 +1,185 @@
+/* Every exported call on four layers of 1024 by 1024 samples, each in a thread of its own with a stack of exactly 512 kB and a page below it
+ * that must not be touched. The answers are those that the rules give by arithmetic alone, and no call needs more stack than the header
+ * says. Silent if all is right; with an argument it prints how much stack each call needed. */
+#define _GNU_SOURCE
+#include "../../include/puzhenim.h"
+#include <pthread.h>
+#include <stdio.h>
+#include <stdlib.h>
+#include <string.h>
+#include <sys/mman.h>
+
+#define SIDE 1024
+#define HORIZONTAL ((SIDE - 1) * SIDE)
+#define EDGES (2 * HORIZONTAL)
+#define STACK (512 * 1024)
+#define PAGE 4096
+#define PAINT 0xA5
+
+static uint8_t bitmap[SIDE * SIDE / 8], sheet[4 * EDGES], roll[7 * EDGES + 7], items[2 * EDGES];
+static uint16_t table[EDGES], before[EDGES];
+static double points[2 * EDGES];
+static uint64_t figures[4];
+static size_t sheet_len, roll_len;
+static uint8_t *stack, *start;
+
+#define LAYER SIDE, SIDE, bitmap, sizeof bitmap
+#define TABLE table, EDGES
+#define FIGURES figures, 4
+
+static uint32_t counts(void) { return pz_counts(LAYER, TABLE, FIGURES); }
+static uint32_t trace(void) { return pz_trace(LAYER, TABLE, FIGURES); }
+static uint32_t smooth(void) { return pz_smooth(LAYER, TABLE, 1, FIGURES); }
+static uint32_t simplify(void) { return pz_simplify(LAYER, TABLE, 64, FIGURES); }
+static uint32_t edit(void) { return pz_roll(LAYER, TABLE, roll, roll_len, 255, FIGURES); }
+static uint32_t write_sheet(void) { return pz_write_sheet(LAYER, TABLE, sheet, sizeof sheet, FIGURES); }
+static uint32_t read_sheet(void) { return pz_read_sheet(LAYER, TABLE, sheet, sheet_len, FIGURES); }
+static uint32_t plan(void) { return pz_plan(LAYER, TABLE, items, sizeof items, points, 2 * EDGES, FIGURES); }
+static uint32_t sample(void) { return pz_sample(LAYER, 1, 1, FIGURES); }
+
+/* A call, and the most stack that the header grants it. */
+typedef struct {
+    const char *name;
+    uint32_t (*make)(void);
+    size_t most;
+} Call;
+
+static const Call COUNTS = {"pz_counts", counts, 132 * 1024}, TRACE = {"pz_trace", trace, 1024}, SMOOTH = {"pz_smooth", smooth, 132 * 1024},
+                  SIMPLIFY = {"pz_simplify", simplify, 272 * 1024}, ROLL = {"pz_roll", edit, 132 * 1024},
+                  WRITE = {"pz_write_sheet", write_sheet, 132 * 1024}, READ = {"pz_read_sheet", read_sheet, 132 * 1024},
+                  PLAN = {"pz_plan", plan, 132 * 1024}, SAMPLE = {"pz_sample", sample, 1024};
+
+static const char *layer;
+static int shows;
+
+static void expect(int right, const char *call, const char *what) {
+    if (right) return;
+    fprintf(stderr, "stack.c: %s, %s: %s\n", layer, call, what);
+    exit(1);
+}
+
+static void *run(void *call) {
+    start = __builtin_frame_address(0);
+    return (void *)(uintptr_t)((const Call *)call)->make();
+}
+
+/* Makes a call that must be done, on a stack that is filled before and looked through after. */
+static void make(const Call *call) {
+    pthread_attr_t attributes;
+    pthread_t thread;
+    void *number;
+    size_t low = 0;
+    memset(stack, PAINT, STACK);
+    memset(figures, PAINT, sizeof figures);
+    pthread_attr_init(&attributes);
+    expect(!pthread_attr_setstack(&attributes, stack, STACK), call->name, "the stack is not taken");
+    expect(!pthread_create(&thread, &attributes, run, (void *)call), call->name, "no thread");
+    pthread_join(thread, &number);
+    pthread_attr_destroy(&attributes);
+    while (stack[low] == PAINT) low++;
+    size_t need = start - (stack + low);
+    if (shows) printf("%-12s %-14s %6zu\n", layer, call->name, need);
+    expect(!number && figures[0] == 0, call->name, "refused");
+    expect(need <= call->most, call->name, "more stack than the header says");
+}
+
+static void answered(const Call *call, uint64_t one, uint64_t two, uint64_t three) {
+    expect(figures[1] == one && figures[2] == two && figures[3] == three, call->name, "other figures");
+}
+
+static size_t inside(size_t c, size_t r) { return bitmap[r * (SIDE / 8) + c / 8] >> c % 8 & 1; }
+
+/* The rule of a layer, for the samples off the border. */
+static int is_inside(size_t c, size_t r) {
+    if (!strcmp(layer, "checkerboard")) return (c + r) % 2 == 0;
+    if (!strcmp(layer, "serpentine")) return r % 2 == 1 || (r / 2 % 2 == 0 ? c == 1 : c == SIDE - 2);
+    if (!strcmp(layer, "passages")) return r % 5 > 1 || c < 4 || c > SIDE - 5 || (c + 16 * (r / 5)) % 256 < 3;
+    uint32_t noise = (uint32_t)(r * SIDE + c) * 2654435761u;
+    noise = (noise ^ noise >> 15) * 2246822519u;
+    return (noise ^ noise >> 13) >> 7 & 1;
+}
+
+static void fill_bitmap(void) {
+    memset(bitmap, 0, sizeof bitmap);
+    for (size_t r = 1; r + 1 < SIDE; r++)
+        for (size_t c = 1; c + 1 < SIDE; c++)
+            if (is_inside(c, r)) bitmap[r * (SIDE / 8) + c / 8] |= 1 << c % 8;
+}
+
+/* Fills the roll with a slide of each kept vertex to an offset, or to where it is if that is 0, and answers how many. */
+static size_t fill_roll(uint8_t offset) {
+    size_t n = 0;
+    for (size_t e = 0; e < EDGES; e++) {
+        size_t kind = e >= HORIZONTAL, across = SIDE - 1 + kind, k = e - kind * HORIZONTAL, c = k % across, r = k / across;
+        if (table[e] == 0 || table[e] > 255) continue;
+        const uint8_t slide[7] = {'S', kind, c % 256, c / 256, r % 256, r / 256, offset ? offset : table[e]};
+        memcpy(roll + 7 * n++, slide, 7);
+    }
+    roll[7 * n] = 'E';
+    roll_len = 7 * n + 1;
+    return n;
+}
+
+/* How many entries are `low` to `high`. */
+static size_t entries(uint16_t low, uint16_t high) {
+    size_t n = 0;
+    for (size_t e = 0; e < EDGES; e++) n += low <= table[e] && table[e] <= high;
+    return n;
+}
+
+static uint64_t movement(void) {
+    uint64_t total = 0;
+    for (size_t e = 0; e < EDGES; e++) total += abs(table[e] - before[e]);
+    return total;
+}
+
+/* All calls on a layer of so many contours. */
+static void all_calls(const char *name, uint64_t contours) {
+    uint64_t samples = 0, sticks = 0;
+    layer = name;
+    fill_bitmap();
+    for (size_t r = 0; r + 1 < SIDE; r++)
+        for (size_t c = 0; c + 1 < SIDE; c++) {
+            samples += inside(c, r);
+            sticks += (inside(c, r) ^ inside(c + 1, r)) + (inside(c, r) ^ inside(c, r + 1));
+        }
+    make(&SAMPLE), answered(&SAMPLE, is_inside(1, 1), 0, 0);
+    make(&COUNTS), answered(&COUNTS, samples, sticks, contours);
+    make(&TRACE), answered(&TRACE, 0, 0, 0);
+    expect(entries(128, 128) == sticks && entries(0, 0) == EDGES - sticks, "pz_trace", "another table");
+    /* Between two kept vertices there is no stick to cross. */
+    fill_roll(100);
+    make(&ROLL), answered(&ROLL, sticks, 0, 0);
+    expect(entries(100, 100) == sticks, "pz_roll", "another table");
+    memcpy(before, table, sizeof table);
+    make(&SMOOTH), answered(&SMOOTH, 1, movement(), 1000 * movement() < 256 * sticks);
+    expect(entries(1, 255) == sticks, "pz_smooth", "another table");
+    make(&SIMPLIFY);
+    expect(figures[1] == entries(257, 511) && figures[3] == 0, "pz_simplify", "other vertices removed");
+    expect(2 * contours <= figures[2] && figures[2] <= 2 * (sticks - contours), "pz_simplify", "runs tried");
+    /* A vertex slid to where it is redraws the edges that are held, and no slide is longer than 255. */
+    memcpy(before, table, sizeof table);
+    uint64_t kept = fill_roll(0);
+    make(&ROLL), answered(&ROLL, kept, 0, 0);
+    expect(!memcmp(before, table, sizeof table), "pz_roll", "another table");
+    sheet_len = 6 + 6 * contours + 2 * sticks;
+    make(&WRITE), answered(&WRITE, sheet_len, 0, 0);
+    memset(table, 7, sizeof table);
+    make(&READ), answered(&READ, 0, 0, 0);
+    expect(!memcmp(before, table, sizeof table), "pz_read_sheet", "another table");
+    make(&PLAN), answered(&PLAN, kept + contours, 2 * kept, 0);
+}
+
+int main(int argc, char **argv) {
+    (void)argv;
+    shows = argc > 1;
+    uint8_t *memory = mmap(NULL, PAGE + STACK, PROT_NONE, MAP_PRIVATE | MAP_ANONYMOUS, -1, 0);
+    stack = memory + PAGE;
+    if (memory == MAP_FAILED || mprotect(stack, STACK, PROT_READ | PROT_WRITE)) return 1;
+    /* The contours are the connected parts: of inside samples by sides, of outside ones by sides and corners, less the outermost. */
+    all_calls("checkerboard", 522242);
+    all_calls("serpentine", 1);
+    all_calls("passages", 1009);
+    all_calls("noise", 69357 + 3408 - 1);
+    return 0;
+}
