@@ -2,12 +2,11 @@
 -- layer, whose sheet is, by read-again, the one that was read.
 use mathlib.Core.Path.{_≡_, refl, sym, ap, _∙_}
 use mathlib.Core.List.{List, [], _∷_, _++_}
-use Prim.Native.Nat.{ℕ, _≤_, _<_}
+use Prim.Native.Nat.{ℕ}
 use native.Mathlib.Omega.{arith}
-use lib.ListN.{length, getD, drop}
+use lib.ListN.{length, drop}
 use lib.Seq.{sets, take-at}
 use Rattle.grid.specs.Layer.{Layer}
-use Rattle.grid.specs.Edges.{edgeCount}
 use Rattle.grid.specs.Questions.{firstNo}
 use Rattle.grid.specs.declared.question.Answer.{Answer}
 use Rattle.grid.specs.declared.question.Answer.the-variants.{Yes, No}
