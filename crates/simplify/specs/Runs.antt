@@ -37,7 +37,7 @@ chordPasses L t tolerance p q u = crosses p q u && slidesWithin tolerance p q u 
 unfoldable pub passes : Layer → List ℕ → ℕ → Edge → ℕ → Bool
 passes L t tolerance e n = each (chordPasses L t tolerance (vertex L t e) (vertex L t (stickAfter L n e))) (between L e n)
 
--- what simplifying has come to: the table, "the vertices removed and the runs tried"
+-- the result of simplifying so far: the table, "the vertices removed and the runs tried"
 pub record Progress : Type 0 where
   pub table : List ℕ
   pub removed : ℕ
