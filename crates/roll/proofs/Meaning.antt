@@ -89,8 +89,8 @@ module _ (L : Layer) (sound : Sound L) (t : List ℕ) (entries : entriesAnswer L
 
 -- An edit of a held layer
 
-and-true : {a b : Bool} → a ≡ true → b ≡ true → (a && b) ≡ true
-and-true x y = rw (x, y)
+both-true : {a b : Bool} → a ≡ true → b ≡ true → (a && b) ≡ true
+both-true x y = rw (x, y)
 
 module _ (L : Layer) (t : List ℕ) (accepted : Accepted L t) (s : Named) (tolerance place : ℕ) where
   abbrev e : Edge
@@ -127,8 +127,8 @@ module _ (L : Layer) (t : List ℕ) (accepted : Accepted L t) (s : Named) (toler
             record {
               kept = y .0;
               offset = y .1;
-              into = moved-is (y .0) (y .1) P (before-drawn L t accepted e d) .0 (and-true (c .0) (w .0));
-              out = moved-is (y .0) (y .1) e d .0 (and-true (c .1) (w .1));
+              into = moved-is (y .0) (y .1) P (before-drawn L t accepted e d) .0 (both-true (c .0) (w .0));
+              out = moved-is (y .0) (y .1) e d .0 (both-true (c .1) (w .1));
             }
 
         from : SlideAccepted L t tolerance s o → slideAnswer L tolerance t place s o ≡ Yes
@@ -138,7 +138,7 @@ module _ (L : Layer) (t : List ℕ) (accepted : Accepted L t) (s : Named) (toler
             (moved-is (a .kept) (a .offset) P (before-drawn L t accepted e d) .1 (a .into)) in
             let u = and-split (edgeCrosses L moved e) (edgeWithin L moved tolerance e) (moved-is (a .kept) (a .offset) e d .1 (a .out)) in
             yes-four place NoKeptVertex BadOffset NoCrossing BeyondTolerance (a .kept) (a .offset)
-            (and-true (i .0) (u .0)) (and-true (i .1) (u .1))
+            (both-true (i .0) (u .0)) (both-true (i .1) (u .1))
 
   -- a removal: the edge that joins the neighbours is drawn after it
 
@@ -165,7 +165,7 @@ module _ (L : Layer) (t : List ℕ) (accepted : Accepted L t) (s : Named) (toler
       to all =
           let y = four-yes place NoKeptVertex NoCrossing BeyondTolerance TooFewKept (carriesKept L t s) (edgeCrosses L rest P)
           (edgeWithin L rest tolerance P) (leb 3 many) all in
-          record { kept = y .0; over = joined-is (y .0) .0 (and-true (y .1) (y .2)); three = leb-true 3 many (y .3) }
+          record { kept = y .0; over = joined-is (y .0) .0 (both-true (y .1) (y .2)); three = leb-true 3 many (y .3) }
 
       from : RemovalAccepted L t tolerance s → removalAnswer L tolerance t place s ≡ Yes
       from a =

@@ -20,9 +20,9 @@ use Rattle.contour.specs.Walk.{ahead}
 use Rattle.contour.specs.Contours.{walkOf, contourOf}
 use Rattle.contour.proofs.Orbit.{ahead-add, ahead-one, round}
 use Rattle.contour.proofs.Sticks.{laws}
-use Rattle.chord.specs.Crossing.{crosses, slidesWithin}
+use Rattle.chord.specs.Crossing.{crosses}
 use Rattle.table.specs.Entries.{entriesAnswer}
-use Rattle.table.specs.Vertices.{removedAt, offsetAt}
+use Rattle.table.specs.Vertices.{removedAt}
 use Rattle.held.specs.Held.{each, vertex}
 use Rattle.held.proofs.Vertices.{vertices-of, kept-of}
 use Rattle.held.proofs.Stores.{removal-vertex, removal-more, removal-entries, removal-length}
@@ -104,7 +104,7 @@ passes-crosses L t tolerance e n h j a b =
     let p = vertex L t e in
     let q = vertex L t (stickAfter L n e) in
     let u = stickAfter L j e in
-    and-split (crosses p q u) (slidesWithin tolerance p q u (offsetAt L t u))
+    and-split (crosses p q u) _
     (each-following L (chordPasses L t tolerance p q) (n - 1) e h j a (omega arith)) .0
 
 module _ (L : Layer) (sound : Sound L) where
@@ -297,7 +297,7 @@ module _ (L : Layer) (sound : Sound L) where
         | no g ↦ elim (decLt j i) [ yes l ↦ r .apart j i l b (sym q) | no k ↦ d (omega arith) ]
       ]
 
-  -- so the inner sticks of a run that is no longer than its contour
+  -- so the inner sticks of a run no longer than its contour are met once
   pub run-apart : (e : Edge) (n : ℕ) → isStick L e ≡ true → n ≤ length (contourOf L e) → Apart L e n
   run-apart e n stick most i j a b c = contour-apart e stick i j a (omega arith) (omega arith)
 

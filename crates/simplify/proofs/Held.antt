@@ -107,7 +107,7 @@ module _ (L : Layer) (sound : Sound L) where
         contour-tried L sound tolerance s f ready-f .thins .others u stick
         (λ j a b q. off (subst (On (walkOf L) f) q (on-ahead (walkOf L) (laws L sound) f j stick-f)))
 
-    -- nor vertex 0 of any
+    -- and so does vertex 0 of every contour
     first-kept : (g : Edge) → first (walkOf L) g ≡ true → removedAt L t′ g ≡ false
     first-kept g h =
         let law = laws L sound in

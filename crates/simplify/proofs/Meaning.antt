@@ -1,5 +1,5 @@
 -- Simplify says what the paper says, over points: a run passes the test exactly if its chord crosses each stick between and the point there
--- is within T of the vertex; and simplifying a layer results in what trying its runs so results in, and in nothing else.
+-- is within T of the vertex; and the result of `simplify` is the one to which the paper's rule of trying runs leads over points, and no other.
 use mathlib.Core.Path.{_≡_, refl, sym, subst, _∙_, ap}
 use mathlib.Core.Logic.{_↔_, _≢_}
 use mathlib.Core.Bool.{Bool, true, true≢false}
