@@ -9,3 +9,4 @@ pub mod Tests
 pub mod Order
 pub mod Cells
 pub mod Regions
+pub mod Tolerance

@@ -1,4 +1,4 @@
--- The tests of a crossing, told from numbers that equal those of the definitions; and a chord against the sticks of a run, one stick more.
+-- The tests of a crossing, computed from numbers that equal those of the definitions; and a chord against the sticks of a run, one stick more.
 use mathlib.Core.Path.{_≡_, refl, sym, _∙_, ap}
 use mathlib.Core.Bool.{Bool, true, false, _&&_, _||_}
 use Prim.Native.Nat.{ℕ, zero, suc, _+_, _*_, _-_, _≤_, _<_}

@@ -47,6 +47,6 @@ crosses p q e =
     && ltb (meeting p q e) ((base e + 256) * total p q e)
 
 -- a vertex at offset o of the edge slides by at most t to the chord, for a chord that crosses the edge: this is then `SlidesWithin` of the
--- point there (proofs/Slides.antt)
+-- point there (proofs/Slides.antt, and with crossing together proofs/Tolerance.antt)
 unfoldable pub slidesWithin : ℕ → Position → Position → Edge → ℕ → Bool
 slidesWithin t p q e o = leb (distance (meeting p q e) ((base e + o) * total p q e)) (t * total p q e)

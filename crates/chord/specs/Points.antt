@@ -87,3 +87,12 @@ slide z e o = cond (e .vertical) (fromY z (position e o)) (fromX z (position e o
 -- "each vertex there would slide at most T (in 1/256, compared exactly)": from offset o of the edge to the point z of it
 abbrev pub SlidesWithin : ℕ → Point → Edge → ℕ → Type 0
 SlidesWithin t z e o = natAbs (slide z e o) ≤ t * z .d
+
+-- every point where the segment from p to q meets the edge is at most T from the vertex at offset o
+abbrev pub MeetsWithin : ℕ → Position → Position → Edge → ℕ → Type 0
+MeetsWithin t p q e o = (z : Point) → Meets z p q e → SlidesWithin t z e o
+
+-- "its chord crosses each stick between and each vertex there would slide at most T": at one stick, whose vertex has offset o
+pub record CrossesWithin (t : ℕ) (p q : Position) (e : Edge) (o : ℕ) : Type 0 where
+  pub crossed : Crosses p q e
+  pub within : MeetsWithin t p q e o

@@ -30,13 +30,19 @@ use Rattle.roll.specs.Chords.{slidInto, slidOut, joinedOver, crossesChor
 use Rattle.roll.proofs.Within.{chord-within, chord-crosses}
 use Rattle.roll.proofs.Redrawn.{vertices, inside-of, kept-stick, before-drawn, slide-offsets, slide-accepted, removal-offsets, removal-accepted}
 
--- what a yes to four questions says of the first three
-four-yes : (place : ℕ) (p q r s : Refusal) (a b c d : Bool)
-    → firstNo (askAt place p a ∷ askAt place q b ∷ askAt place r c ∷ askAt place s d ∷ []) ≡ Yes → (a ≡ true) × (b ≡ true) × (c ≡ true)
-four-yes place p q r s true true true d h = (refl, refl, refl)
+-- a yes to four questions is a yes to each
+pub four-yes : (place : ℕ) (p q r s : Refusal) (a b c d : Bool)
+    → firstNo (askAt place p a ∷ askAt place q b ∷ askAt place r c ∷ askAt place s d ∷ []) ≡ Yes
+    → (a ≡ true) × (b ≡ true) × (c ≡ true) × (d ≡ true)
+four-yes place p q r s true true true true h = (refl, refl, refl, refl)
+four-yes place p q r s true true true false h = absurd (no-not-yes s place h)
 four-yes place p q r s true true false d h = absurd (no-not-yes r place h)
 four-yes place p q r s true false c d h = absurd (no-not-yes q place h)
 four-yes place p q r s false b c d h = absurd (no-not-yes p place h)
+
+pub yes-four : (place : ℕ) (p q r s : Refusal) {a b c d : Bool} → a ≡ true → b ≡ true → c ≡ true → d ≡ true
+    → firstNo (askAt place p a ∷ askAt place q b ∷ askAt place r c ∷ askAt place s d ∷ []) ≡ Yes
+yes-four place p q r s x y z w = λ i. firstNo (askAt place p (x i) ∷ askAt place q (y i) ∷ askAt place r (z i) ∷ askAt place s (w i) ∷ [])
 
 -- both edges that a slide redraws
 
@@ -124,7 +130,7 @@ module _ (L : Layer) (t : List ℕ) (accepted : Accepted L t) (s : Named) where
 
       -- the table after it is accepted too
       module _ (all : slideAnswer L tolerance t place s o ≡ Yes) where
-        answered : (carriesKept L t s ≡ true) × (goodOffset o ≡ true) × (cross ≡ true)
+        answered : (carriesKept L t s ≡ true) × (goodOffset o ≡ true) × (cross ≡ true) × (within ≡ true)
         unfolding slideAnswer
         answered = four-yes place NoKeptVertex BadOffset NoCrossing BeyondTolerance (carriesKept L t s) (goodOffset o) cross within all
 
@@ -199,7 +205,7 @@ module _ (L : Layer) (t : List ℕ) (accepted : Accepted L t) (s : Named) where
             && not (same-false (walkOf L) law {x = nextKept L t N} {y = P} third i))
 
     module _ (all : removalAnswer L tolerance t place s ≡ Yes) where
-      agreed : (carriesKept L t s ≡ true) × (over ≡ true) × (near ≡ true)
+      agreed : (carriesKept L t s ≡ true) × (over ≡ true) × (near ≡ true) × (three ≡ true)
       unfolding removalAnswer
       agreed = four-yes place NoKeptVertex NoCrossing BeyondTolerance TooFewKept (carriesKept L t s) over near three all
 

@@ -36,7 +36,7 @@ module _ (r : List ℕ) (i : ℕ) where
   pub at-none : length r ≤ i → commandAt r i ≡ wrong
   at-none h = rw (List·getD-eq-default r 0 h)
 
--- what a command comes to, with `later` the answer from a place on
+-- the answer at a command, with `later` the answer from a place on
 abbrev step : List ℕ → ℕ → (ℕ → Answer) → Command → Answer
 step r i later c = elim c [
   | slides stick offset ↦ later (i + 7)

@@ -1,4 +1,4 @@
--- Roll leaves a layer that passes questions 1 to 7 so, for every roll and tolerance: done, refused, or stopped partway.
+-- A layer that passes questions 1 to 7 passes them after Roll too, for every roll and tolerance: done, refused, or stopped partway.
 use mathlib.Core.Path.{_≡_, refl, sym, subst}
 use mathlib.Core.List.{List, [], _∷_, _++_}
 use Prim.Native.Nat.{ℕ, zero, suc, _+_}

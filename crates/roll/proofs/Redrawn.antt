@@ -94,7 +94,7 @@ module _ (L : Layer) (t : List ℕ) (accepted : Accepted L t) where
     next-other : nextKept L t e ≢ e
     next-other = not-one L t sound vertices e d (held .crossed e d)
 
-    before-other : P ≢ e
+    pub before-other : P ≢ e
     before-other s = next-other (sym (ap (nextKept L t) s) ∙ arrives)
 
     -- A slide

@@ -1,4 +1,4 @@
--- One command after the other: what a step comes to, that a roll that passes question 8 goes on from step to step up to its end, and that each
+-- One command after the other: the result of a step, that a roll that passes question 8 goes on from step to step up to its end, and that each
 -- step leaves the table accepted.
 use mathlib.Core.Path.{_≡_, refl, sym, _∙_, ap, subst}
 use mathlib.Core.List.{List}
@@ -86,7 +86,7 @@ module _ (L : Layer) (tolerance : ℕ) (r : List ℕ) where
   abbrev pub stopped : ℕ → List ℕ → Outcome
   stopped done t = record { refusal = 0; place = 0; done = done; table = t }
 
-  -- what a command comes to, with `later` the outcome from a place on
+  -- the outcome at a command, with `later` the outcome from a place on
   abbrev pub run-by : ℕ → ℕ → List ℕ → (ℕ → List ℕ → Outcome) → Command → Outcome
   run-by i done t later c = elim c [
     | slides s o ↦ ifAllYes (slideAnswer L tolerance t i s o) (refused done t) (later (i + 7) (slid L t (edgeNamed s) o))

@@ -15,7 +15,7 @@ use Rattle.roll.specs.declared.command.Named as declared
 abbrev pub askAt : ℕ → Refusal → Bool → Answer
 askAt place q test = cond test Yes (No q place)
 
--- a stick as a command names it, by kind, column and row; it may be none of the grid: the struct of src/command.rt
+-- a stick as a command names it, by kind, column and row; it may lie outside the grid: the struct of src/command.rt
 abbrev pub Named : Type 0
 Named = declared.Named
 

@@ -21,7 +21,8 @@ use Rattle.roll.specs.Commands.{Named, askAt}
 abbrev pub edgeNamed : Named → Edge
 edgeNamed s = record { vertical = eqb (s .kind) 1; column = s .column; row = s .row }
 
--- the vertices removed under the drawn edge that starts at the kept vertex of e would slide at most T to it, from their stored offsets
+-- the vertices removed under the drawn edge that starts at the kept vertex of e would slide at most T to it, from their stored offsets; for
+-- an edge that crosses their sticks this is `RemovedWithin` (Meaning.antt)
 unfoldable pub edgeWithin : Layer → List ℕ → ℕ → Edge → Bool
 edgeWithin L t tolerance e =
     each (λ u. slidesWithin tolerance (vertex L t e) (vertex L t (nextKept L t e)) u (offsetAt L t u)) (gapAfter L t e)

@@ -20,7 +20,7 @@ pub record Outcome : Type 0 where
 
 module _ (L : Layer) (tolerance : ℕ) (r : List ℕ) where
   -- The n commands from i on at most, after some are done: "A refusal leaves all buffers as found, but for earlier commands of a roll." The
-  -- places and n are those of `wellFormed`, which answers no where n runs out or a command is wrong: a roll that passes 8 comes to neither.
+  -- places and n are those of `wellFormed`, which answers no where n runs out or a command is wrong: a roll that passes 8 meets neither.
   unfoldable pub runFrom : ℕ → ℕ → ℕ → List ℕ → Outcome
   unfolding slideAnswer removalAnswer
   runFrom zero i done t = record { refusal = 0; place = 0; done = done; table = t }

@@ -1,4 +1,4 @@
--- One command of a roll as the code takes it: what it comes to, and the table after it. Roll.antt has the commands one after the other.
+-- One command of a roll as the code takes it: its result, and the table after it. Roll.antt has the commands one after the other.
 use mathlib.Core.List.{List}
 use Prim.Native.Nat.{ℕ, _+_}
 use Rattle.grid.specs.Layer.{Layer}

@@ -8,7 +8,7 @@ ghost use lib.Dec.{eqb};
 ghost use Rattle.grid.specs.declared.question.Refusal.the-variants.{Malformed};
 ghost use Rattle.roll.specs.Commands.{askAt, twoBytes, namedAt, rollAnswer};
 
-// A stick as a command names it; it may be none of the grid.
+// A stick as a command names it; it may lie outside the grid.
 pub struct Named {
     pub kind: u8,
     pub column: usize,

@@ -28,7 +28,7 @@ pub enum Rolled {
     },
 }
 
-// What a command came to: it is done and the next one starts at a byte, the roll ends, or a question is answered no.
+// The result of a command: it is done and the next one starts at a byte, the roll ends, or a question is answered no.
 pub enum Step {
     On(usize),
     End,

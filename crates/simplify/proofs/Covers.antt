@@ -20,15 +20,15 @@ use Rattle.contour.specs.Walk.{ahead}
 use Rattle.contour.specs.Contours.{walkOf, contourOf}
 use Rattle.contour.proofs.Orbit.{ahead-add, ahead-one, round}
 use Rattle.contour.proofs.Sticks.{laws}
-use Rattle.chord.specs.Crossing.{crosses, slidesWithin}
+use Rattle.chord.specs.Crossing.{crosses}
 use Rattle.table.specs.Entries.{entriesAnswer}
-use Rattle.table.specs.Vertices.{removedAt, offsetAt}
+use Rattle.table.specs.Vertices.{removedAt}
 use Rattle.held.specs.Held.{each, vertex}
 use Rattle.held.proofs.Vertices.{vertices-of, kept-of}
 use Rattle.held.proofs.Stores.{removal-vertex, removal-more, removal-entries, removal-length}
 use Rattle.held.proofs.FourKept.{four-sticks}
 use Rattle.simplify.specs.Runs.{stickAfter, following, passes, chordPasses, Progress, removeVertex, half, oneTried, tryRun, simplifyContour}
-use Rattle.simplify.proofs.Trying.{split, split-of, try-passes, try-splits, inner-is, contour-runs}
+use Rattle.simplify.proofs.Trying.{Split, split, split-of, try-passes, try-splits, inner-is, contour-runs}
 
 -- a table of a sound layer that passes questions 5 and 6
 pub record Sane (L : Layer) (t : List ℕ) : Type 0 where
@@ -59,6 +59,23 @@ Open L t e n = (i : ℕ) → i ≤ n → removedAt L t (stickAfter L i e) ≡ fa
 abbrev pub Apart : Layer → Edge → ℕ → Type 0
 Apart L e n = (i j : ℕ) → 0 < i → i < n → j ≤ n → i ≢ j → stickAfter L i e ≢ stickAfter L j e
 
+-- what is known of a run of n edges from e before it is tried
+pub record Ready (L : Layer) (t : List ℕ) (e : Edge) (n : ℕ) : Type 0 where
+  pub sane : Sane L t
+  pub stick : isStick L e ≡ true
+  pub kept : Open L t e n
+  pub apart : Apart L e n
+
+-- so of its first h edges
+pub first-ready : {L : Layer} {t : List ℕ} {e : Edge} {n : ℕ} (h : ℕ) → h ≤ n → Ready L t e n → Ready L t e h
+first-ready h most ready =
+    record {
+      sane = ready .sane;
+      stick = ready .stick;
+      kept = λ i l. ready .kept i (omega arith);
+      apart = λ i j a b c. ready .apart i j a (omega arith) (omega arith);
+    }
+
 -- a piece stays one where its sticks stay as they are
 pub piece-same : (L : Layer) (t t′ : List ℕ) (p : Edge) (m : ℕ) → ((u : Edge) → vertex L t′ u ≡ vertex L t u)
     → ((j : ℕ) → j ≤ m → removedAt L t′ (stickAfter L j p) ≡ removedAt L t (stickAfter L j p)) → Piece L t p m → Piece L t′ p m
@@ -87,7 +104,7 @@ passes-crosses L t tolerance e n h j a b =
     let p = vertex L t e in
     let q = vertex L t (stickAfter L n e) in
     let u = stickAfter L j e in
-    and-split (crosses p q u) (slidesWithin tolerance p q u (offsetAt L t u))
+    and-split (crosses p q u) _
     (each-following L (chordPasses L t tolerance p q) (n - 1) e h j a (omega arith)) .0
 
 module _ (L : Layer) (sound : Sound L) where
@@ -142,50 +159,54 @@ module _ (L : Layer) (sound : Sound L) where
 
   -- Two runs in turn
 
-  module _ (t t₁ t₂ : List ℕ) (e : Edge) (stick : isStick L e ≡ true) (n h : ℕ) (most : h ≤ n) (apart : Apart L e n)
-      (first : Thins L t t₁ e h) where
-    second-open : Open L t e n → Open L t₁ (stickAfter L h e) (n - h)
-    second-open kept i l =
-        rw (steps h i e)
-        (first .others (stickAfter L (h + i) e) (step-stick (h + i) e stick)
-        (λ j a b. apart j (h + i) a (omega arith) (omega arith) (λ q. omega arith))
-        ∙ kept (h + i) (omega arith))
+  -- after the first h edges of a run are tried, the others are ready
+  pub second-ready : {t t₁ : List ℕ} {e : Edge} {n : ℕ} (h : ℕ) → h ≤ n → Ready L t e n → Thins L t t₁ e h → Ready L t₁ (stickAfter L h e) (n - h)
+  second-ready {e = e} h most ready first =
+      record {
+        sane = first .sane;
+        stick = step-stick h e (ready .stick);
+        kept = λ i l.
+            rw (steps h i e)
+            (first .others (stickAfter L (h + i) e) (step-stick (h + i) e (ready .stick))
+            (λ j a b. ready .apart j (h + i) a (omega arith) (omega arith) (λ q. omega arith))
+            ∙ ready .kept (h + i) (omega arith));
+        apart = λ i j a b c d q.
+            ready .apart (h + i) (h + j) (omega arith) (omega arith) (omega arith) (λ s. d (omega arith))
+            (sym (steps h i e) ∙ q ∙ steps h j e);
+      }
 
-    second-apart : Apart L (stickAfter L h e) (n - h)
-    second-apart i j a b c d q =
-        apart (h + i) (h + j) (omega arith) (omega arith) (omega arith) (λ s. d (omega arith)) (sym (steps h i e) ∙ q ∙ steps h j e)
+  module _ (t t₁ t₂ : List ℕ) (e : Edge) (n h : ℕ) (most : h ≤ n) (ready : Ready L t e n) (first : Thins L t t₁ e h)
+      (second : Thins L t₁ t₂ (stickAfter L h e) (n - h)) where
+    thins-both : Thins L t t₂ e n
+    thins-both =
+        record {
+          sane = second .sane;
+          unmoved = λ u. second .unmoved u ∙ first .unmoved u;
+          others = λ u at-u no.
+              second .others u at-u (λ j a b q. no (h + j) (omega arith) (omega arith) (sym (steps h j e) ∙ q))
+              ∙ first .others u at-u (λ j a b. no j a (omega arith));
+        }
 
-    module _ (second : Thins L t₁ t₂ (stickAfter L h e) (n - h)) where
-      thins-both : Thins L t t₂ e n
-      thins-both =
-          record {
-            sane = second .sane;
-            unmoved = λ u. second .unmoved u ∙ first .unmoved u;
-            others = λ u at-u no.
-                second .others u at-u (λ j a b q. no (h + j) (omega arith) (omega arith) (sym (steps h j e) ∙ q))
-                ∙ first .others u at-u (λ j a b. no j a (omega arith));
-          }
+    -- the second leaves the first as it is
+    still : (i : ℕ) → i ≤ h → removedAt L t₂ (stickAfter L i e) ≡ removedAt L t₁ (stickAfter L i e)
+    still i l =
+        second .others (stickAfter L i e) (step-stick i e (ready .stick))
+        (λ j a b q. ready .apart (h + j) i (omega arith) (omega arith) (omega arith) (λ s. omega arith) (sym (steps h j e) ∙ q))
 
-      -- the second changes nothing of the first
-      still : (i : ℕ) → i ≤ h → removedAt L t₂ (stickAfter L i e) ≡ removedAt L t₁ (stickAfter L i e)
-      still i l =
-          second .others (stickAfter L i e) (step-stick i e stick)
-          (λ j a b q. apart (h + j) i (omega arith) (omega arith) (omega arith) (λ s. omega arith) (sym (steps h j e) ∙ q))
-
-      covers-both : Covers L t₁ e h → Covers L t₂ (stickAfter L h e) (n - h) → Covers L t₂ e n
-      covers-both one two i l kept = elim (decLt i h) [
-        | yes b ↦
-            let c = one i b (sym (still i (omega arith)) ∙ kept) in (
-              c .0,
-              omega (arith, c .1),
-              piece-same L t₁ t₂ (stickAfter L i e) (c .0) (second .unmoved) (λ j d. rw (steps i j e) (still (i + j) (omega (arith, c .1)))) (c .2),
-            )
-        | no g ↦
-            let sum : h + (i - h) ≡ i = omega arith in
-            let here : stickAfter L (i - h) (stickAfter L h e) ≡ stickAfter L i e = steps h (i - h) e ∙ ap (λ (k : ℕ). stickAfter L k e) sum in
-            let c = two (i - h) (omega arith) (rw here kept) in
-            (c .0, omega (arith, c .1), subst (λ (p : Edge). Piece L t₂ p (c .0)) here (c .2))
-      ]
+    covers-both : Covers L t₁ e h → Covers L t₂ (stickAfter L h e) (n - h) → Covers L t₂ e n
+    covers-both one two i l kept = elim (decLt i h) [
+      | yes b ↦
+          let c = one i b (sym (still i (omega arith)) ∙ kept) in (
+            c .0,
+            omega (arith, c .1),
+            piece-same L t₁ t₂ (stickAfter L i e) (c .0) (second .unmoved) (λ j d. rw (steps i j e) (still (i + j) (omega (arith, c .1)))) (c .2),
+          )
+      | no g ↦
+          let sum : h + (i - h) ≡ i = omega arith in
+          let here : stickAfter L (i - h) (stickAfter L h e) ≡ stickAfter L i e = steps h (i - h) e ∙ ap (λ (k : ℕ). stickAfter L k e) sum in
+          let c = two (i - h) (omega arith) (rw here kept) in
+          (c .0, omega (arith, c .1), subst (λ (p : Edge). Piece L t₂ p (c .0)) here (c .2))
+    ]
 
   -- A run
 
@@ -194,17 +215,18 @@ module _ (L : Layer) (sound : Sound L) where
     pub covers : Covers L t′ e n
 
   -- one that passes
-  passed : (t : List ℕ) (tolerance : ℕ) (e : Edge) (n : ℕ) → 1 ≤ n → Sane L t → isStick L e ≡ true → Open L t e n → Apart L e n
+  passed : (t : List ℕ) (tolerance : ℕ) (e : Edge) (n : ℕ) → 1 ≤ n → Ready L t e n
       → passes L t tolerance e n ≡ true → Tried t (foldl (removeVertex L) t (following L (n - 1) e)) e n
   unfolding ahead
-  passed t tolerance e n some sane stick kept apart yes-all =
+  passed t tolerance e n some ready yes-all =
       let t′ : List ℕ = foldl (removeVertex L) t (following L (n - 1) e) in
-      let r = remove-following (n - 1) e t sane stick (λ j a b. kept j (omega arith))
-      (λ i j a b c. apart i j a (omega arith) (omega arith) (λ q. omega arith)) in
+      let r = remove-following (n - 1) e t (ready .sane) (ready .stick) (λ j a b. ready .kept j (omega arith))
+      (λ i j a b c. ready .apart i j a (omega arith) (omega arith) (λ q. omega arith)) in
       let whole : suc (n - 1) ≡ n = omega arith in
       let thins : Thins L t t′ e n = subst (Thins L t t′ e) whole (r .0) in
       let end : removedAt L t′ (stickAfter L n e) ≡ false =
-      thins .others (stickAfter L n e) (step-stick n e stick) (λ j a b. apart j n a b (omega arith) (λ q. omega arith)) ∙ kept n (omega arith) in
+      thins .others (stickAfter L n e) (step-stick n e (ready .stick)) (λ j a b. ready .apart j n a b (omega arith) (λ q. omega arith))
+      ∙ ready .kept n (omega arith) in
       let piece : Piece L t′ e n = record {
         some = some;
         ends = end;
@@ -221,50 +243,43 @@ module _ (L : Layer) (sound : Sound L) where
   -- what trying runs at a depth is shown to do
   abbrev Trying : ℕ → ℕ → Type 0
   Trying tolerance depth =
-      (s : Progress) (e : Edge) (n : ℕ) → 1 ≤ n → n ≤ depth → Sane L (s .table) → isStick L e ≡ true
-      → Open L (s .table) e n → Apart L e n → Tried (s .table) (tryRun L tolerance depth s e n .table) e n
+      (s : Progress) (e : Edge) (n : ℕ) → 1 ≤ n → n ≤ depth → Ready L (s .table) e n
+      → Tried (s .table) (tryRun L tolerance depth s e n .table) e n
 
   -- two runs in turn
   two-tried : (tolerance depth : ℕ) → Trying tolerance depth → (s : Progress) (e : Edge) (n h : ℕ)
-      → 1 ≤ h → h ≤ depth → 1 ≤ n - h → n - h ≤ depth → Sane L (s .table) → isStick L e ≡ true
-      → Open L (s .table) e n → Apart L e n
+      → 1 ≤ h → h ≤ depth → 1 ≤ n - h → n - h ≤ depth → Ready L (s .table) e n
       → Tried (s .table) (tryRun L tolerance depth (tryRun L tolerance depth s e h) (stickAfter L h e) (n - h) .table) e n
-  two-tried tolerance depth try s e n h some-h most-h some-k most-k sane stick kept apart =
+  two-tried tolerance depth try s e n h some-h most-h some-k most-k ready =
       let m : Edge = stickAfter L h e in
       let s₁ : Progress = tryRun L tolerance depth s e h in
       let t₂ : List ℕ = tryRun L tolerance depth s₁ m (n - h) .table in
       let less : h ≤ n = omega arith in
-      let one : Tried (s .table) (s₁ .table) e h =
-      try s e h some-h most-h sane stick (λ i l. kept i (omega arith)) (λ i j a b c. apart i j a (omega arith) (omega arith)) in
-      let two : Tried (s₁ .table) t₂ m (n - h) =
-      try s₁ m (n - h) some-k most-k (one .thins .sane) (step-stick h e stick)
-      (second-open (s .table) (s₁ .table) t₂ e stick n h less apart (one .thins) kept)
-      (second-apart (s .table) (s₁ .table) t₂ e stick n h less apart (one .thins)) in
+      let one : Tried (s .table) (s₁ .table) e h = try s e h some-h most-h (first-ready h less ready) in
+      let two : Tried (s₁ .table) t₂ m (n - h) = try s₁ m (n - h) some-k most-k (second-ready h less ready (one .thins)) in
       record {
-        thins = thins-both (s .table) (s₁ .table) t₂ e stick n h less apart (one .thins) (two .thins);
-        covers = covers-both (s .table) (s₁ .table) t₂ e stick n h less apart (one .thins) (two .thins) (one .covers) (two .covers);
+        thins = thins-both (s .table) (s₁ .table) t₂ e n h less ready (one .thins) (two .thins);
+        covers = covers-both (s .table) (s₁ .table) t₂ e n h less ready (one .thins) (two .thins) (one .covers) (two .covers);
       }
 
-  one-passed : (tolerance depth : ℕ) (s : Progress) (e : Edge) (n : ℕ) → 1 ≤ n → Sane L (s .table) → isStick L e ≡ true
-      → Open L (s .table) e n → Apart L e n → passes L (s .table) tolerance e n ≡ true
-      → Tried (s .table) (tryRun L tolerance (suc depth) s e n .table) e n
-  one-passed tolerance depth s e n some sane stick kept apart y =
+  one-passed : (tolerance depth : ℕ) (s : Progress) (e : Edge) (n : ℕ) → 1 ≤ n → Ready L (s .table) e n
+      → passes L (s .table) tolerance e n ≡ true → Tried (s .table) (tryRun L tolerance (suc depth) s e n .table) e n
+  one-passed tolerance depth s e n some ready y =
       subst (λ (x : Progress). Tried (s .table) (x .table) e n) (sym (try-passes L tolerance depth s e n y ∙ inner-is L (oneTried s) e n))
-      (passed (s .table) tolerance e n some sane stick kept apart y)
+      (passed (s .table) tolerance e n some ready y)
 
-  one-split : (tolerance depth : ℕ) → Trying tolerance depth → (s : Progress) (e : Edge) (n : ℕ) → n ≤ suc depth → Sane L (s .table) → isStick L e ≡ true
-      → Open L (s .table) e n → Apart L e n → passes L (s .table) tolerance e n ≡ false
-      → Tried (s .table) (tryRun L tolerance (suc depth) s e n .table) e n
-  one-split tolerance depth try s e n most sane stick kept apart f =
+  one-split : (tolerance depth : ℕ) → Trying tolerance depth → (s : Progress) (e : Edge) (n : ℕ) → n ≤ suc depth → Ready L (s .table) e n
+      → passes L (s .table) tolerance e n ≡ false → Tried (s .table) (tryRun L tolerance (suc depth) s e n .table) e n
+  one-split tolerance depth try s e n most ready f =
       let p = split L (s .table) tolerance e n f in
       subst (λ (x : Progress). Tried (s .table) (x .table) e n) (sym (try-splits L tolerance depth s e n f))
-      (two-tried tolerance depth try (oneTried s) e n (half n) (p .first-some) (omega (arith, p)) (p .second-some) (omega (arith, p)) sane stick kept apart)
+      (two-tried tolerance depth try (oneTried s) e n (half n) (p .first-some) (omega (arith, p)) (p .second-some) (omega (arith, p)) ready)
 
   pub tried : (tolerance depth : ℕ) → Trying tolerance depth
-  tried tolerance zero s e n some most sane stick kept apart = absurd (omega arith)
-  tried tolerance (suc depth) s e n some most sane stick kept apart = both-sides (passes L (s .table) tolerance e n)
-      (one-passed tolerance depth s e n some sane stick kept apart)
-      (one-split tolerance depth (tried tolerance depth) s e n most sane stick kept apart)
+  tried tolerance zero s e n some most ready = absurd (omega arith)
+  tried tolerance (suc depth) s e n some most ready = both-sides (passes L (s .table) tolerance e n)
+      (one-passed tolerance depth s e n some ready)
+      (one-split tolerance depth (tried tolerance depth) s e n most ready)
 
   -- A contour
 
@@ -282,12 +297,21 @@ module _ (L : Layer) (sound : Sound L) where
         | no g ↦ elim (decLt j i) [ yes l ↦ r .apart j i l b (sym q) | no k ↦ d (omega arith) ]
       ]
 
-  pub contour-tried : (tolerance : ℕ) (s : Progress) (f : Edge) → Sane L (s .table) → isStick L f ≡ true
-      → Open L (s .table) f (length (contourOf L f))
+  -- so the inner sticks of a run no longer than its contour are met once
+  pub run-apart : (e : Edge) (n : ℕ) → isStick L e ≡ true → n ≤ length (contourOf L e) → Apart L e n
+  run-apart e n stick most i j a b c = contour-apart e stick i j a (omega arith) (omega arith)
+
+  pub contour-ready : (t : List ℕ) (f : Edge) → Sane L t → isStick L f ≡ true → Open L t f (length (contourOf L f))
+      → Ready L t f (length (contourOf L f))
+  contour-ready t f sane stick kept = record { sane = sane; stick = stick; kept = kept; apart = contour-apart f stick }
+
+  pub contour-split : (f : Edge) → isStick L f ≡ true → Split (length (contourOf L f))
+  contour-split f stick = split-of (length (contourOf L f)) (omega (arith, four-sticks L sound f stick))
+
+  pub contour-tried : (tolerance : ℕ) (s : Progress) (f : Edge) → Ready L (s .table) f (length (contourOf L f))
       → Tried (s .table) (simplifyContour L tolerance s f .table) f (length (contourOf L f))
-  contour-tried tolerance s f sane stick kept =
+  contour-tried tolerance s f ready =
       let n : ℕ = length (contourOf L f) in
-      let p = split-of n (omega (arith, four-sticks L sound f stick)) in
+      let p = contour-split f (ready .stick) in
       subst (λ (x : Progress). Tried (s .table) (x .table) f n) (sym (contour-runs L tolerance s f))
-      (two-tried tolerance n (tried tolerance n) s f n (half n) (p .first-some) (omega (arith, p)) (p .second-some) (omega (arith, p)) sane stick kept
-      (contour-apart f stick))
+      (two-tried tolerance n (tried tolerance n) s f n (half n) (p .first-some) (omega (arith, p)) (p .second-some) (omega (arith, p)) ready)

@@ -35,7 +35,7 @@ use Rattle.held.proofs.Holding.{layer-held}
 use Rattle.simplify.specs.Runs.{stickAfter, Progress, simplifyContour, simplify}
 use Rattle.simplify.specs.Parts.{begun}
 use Rattle.simplify.specs.Call.{simplifyOf, Outcome}
-use Rattle.simplify.proofs.Covers.{Sane, Piece, Open, piece-same, contour-tried}
+use Rattle.simplify.proofs.Covers.{Sane, Piece, Open, Ready, piece-same, contour-ready, contour-tried}
 use Rattle.simplify.proofs.Layers.{simplify-is}
 use Rattle.simplify.proofs.Outcomes.{outcome-is, yes-to-all}
 
@@ -98,18 +98,21 @@ module _ (L : Layer) (sound : Sound L) where
     stick-f : isStick L f ≡ true
     stick-f = first-one (walkOf L) (laws L sound) f is-first
 
-    -- it changes nothing off the contour
+    ready-f : Ready L (s .table) f (length (contourOf L f))
+    ready-f = contour-ready L sound (s .table) f (thinned .sane) stick-f kept
+
+    -- what is off the contour stays as it is
     outside : (u : Edge) → isStick L u ≡ true → (On (walkOf L) f u → ⊥) → removedAt L t′ u ≡ removedAt L (s .table) u
     outside u stick off =
-        contour-tried L sound tolerance s f (thinned .sane) stick-f kept .thins .others u stick
+        contour-tried L sound tolerance s f ready-f .thins .others u stick
         (λ j a b q. off (subst (On (walkOf L) f) q (on-ahead (walkOf L) (laws L sound) f j stick-f)))
 
-    -- nor vertex 0 of any
+    -- and so does vertex 0 of every contour
     first-kept : (g : Edge) → first (walkOf L) g ≡ true → removedAt L t′ g ≡ false
     first-kept g h =
         let law = laws L sound in
         let stick-g = first-one (walkOf L) law g h in
-        contour-tried L sound tolerance s f (thinned .sane) stick-f kept .thins .others g stick-g
+        contour-tried L sound tolerance s f ready-f .thins .others g stick-g
         (λ j a b q.
         let on : On (walkOf L) f g = subst (On (walkOf L) f) q (on-ahead (walkOf L) law f j stick-f) in
         let same : f ≡ g = on-no-other L sound g f g is-first h on (on-self (walkOf L) law g stick-g) in
@@ -120,7 +123,7 @@ module _ (L : Layer) (sound : Sound L) where
     piece-on p on r =
         let law = laws L sound in
         let at = place (walkOf L) law f p stick-f on in
-        let c = contour-tried L sound tolerance s f (thinned .sane) stick-f kept .covers (at .0) (at .1) (rw (at .2) r) in
+        let c = contour-tried L sound tolerance s f ready-f .covers (at .0) (at .1) (rw (at .2) r) in
         (c .0, omega (arith, c .1, round (walkOf L) law f stick-f .within), subst (λ (x : Edge). Piece L t′ x (c .0)) (at .2) (c .2))
 
     piece-off : (p : Edge) → isStick L p ≡ true → (On (walkOf L) f p → ⊥) → removedAt L t′ p ≡ false
@@ -130,7 +133,7 @@ module _ (L : Layer) (sound : Sound L) where
         let c = thinned .pieces p stick (sym (outside p stick off) ∙ r) in (
           c .0,
           c .1,
-          piece-same L (s .table) t′ p (c .0) (contour-tried L sound tolerance s f (thinned .sane) stick-f kept .thins .unmoved)
+          piece-same L (s .table) t′ p (c .0) (contour-tried L sound tolerance s f ready-f .thins .unmoved)
               (λ j b. outside (stickAfter L j p) (ahead-one (walkOf L) law j p stick)
               (λ o. off (on-share (walkOf L) law f p (stickAfter L j p) stick-f stick o (on-ahead (walkOf L) law p j stick))))
               (c .2),
@@ -139,7 +142,7 @@ module _ (L : Layer) (sound : Sound L) where
     thinned-turn : Thinned L t′
     thinned-turn =
         record {
-          sane = contour-tried L sound tolerance s f (thinned .sane) stick-f kept .thins .sane;
+          sane = contour-tried L sound tolerance s f ready-f .thins .sane;
           pieces = λ p stick r. elim (eq-zero-or-pos (occurrences (walkOf L) p (contourOf L f))) [
             | inl z ↦ piece-off p stick (λ o. omega arith) r
             | inr o ↦ piece-on p o r
@@ -149,38 +152,73 @@ module _ (L : Layer) (sound : Sound L) where
 
   -- All contours
 
-  thinned-all : (tolerance : ℕ) (l : List Edge) (s : Progress)
-      → ((f : Edge) → 0 < occurrences (walkOf L) f l → first (walkOf L) f ≡ true)
-      → ((e : Edge) → occurrences (walkOf L) e (flatten (map (contour (walkOf L)) l)) ≤ 1)
-      → Thinned L (s .table) → Untouched L (s .table) l → Thinned L (foldl (simplifyContour L tolerance) s l .table)
-  unfolding flatten occurrences
-  thinned-all tolerance [] s first-all once thinned kept = thinned
-  thinned-all tolerance (f ∷ l) s first-all once thinned kept =
-      let law = laws L sound in
-      let rest : List Edge = flatten (map (contour (walkOf L)) l) in
-      let is-first = first-all f (omega (arith, ap asNumber (same-self f))) in
-      let stick-f = first-one (walkOf L) law f is-first in
-      let sum : (e : Edge) → occurrences (walkOf L) e (contourOf L f ++ rest) ≡ occurrences (walkOf L) e (contourOf L f) + occurrences (walkOf L) e rest =
-      λ e. occurrences-append (walkOf L) e (contourOf L f) rest in
-      let all : Open L (s .table) f (length (contourOf L f)) = λ i b.
-      kept (stickAfter L i f) (ahead-one (walkOf L) law i f stick-f)
-      (omega (arith, sum (stickAfter L i f), on-ahead (walkOf L) law f i stick-f)) in
-      thinned-all tolerance l (simplifyContour L tolerance s f)
-      (λ g o. first-all g (omega arith))
-      (λ e. omega (arith, sum e, once e))
-      (thinned-turn tolerance s f is-first thinned all)
-      (λ e stick o.
-      outside tolerance s f is-first thinned all e stick (λ u. omega (arith, sum e, once e))
-      ∙ kept e stick (omega (arith, sum e)))
+  -- what is known before the contours of some first sticks are simplified
+  pub record Due (t : List ℕ) (l : List Edge) : Type 0 where
+    pub first-all : (f : Edge) → 0 < occurrences (walkOf L) f l → first (walkOf L) f ≡ true
+    pub once : (e : Edge) → occurrences (walkOf L) e (flatten (map (contour (walkOf L)) l)) ≤ 1
+    pub thinned : Thinned L t
+    pub untouched : Untouched L t l
+
+  -- before the first of them
+  pub due-start : (t : List ℕ) → AllKept L t → Due t (firstSticks L)
+  due-start t kept =
+      record {
+        first-all = first-sticks-only L sound;
+        once = λ e. omega (arith, permutation L sound e, one-le (isStick L e));
+        thinned = thinned-start t kept;
+        untouched = λ e stick o. not-removed L t kept e stick;
+      }
+
+  module _ (f : Edge) (l : List Edge) where
+    abbrev later : List Edge
+    later = flatten (map (contour (walkOf L)) l)
+
+    sum : (e : Edge)
+        → occurrences (walkOf L) e (contourOf L f ++ later) ≡ occurrences (walkOf L) e (contourOf L f) + occurrences (walkOf L) e later
+    sum e = occurrences-append (walkOf L) e (contourOf L f) later
+
+    due-first : {t : List ℕ} → Due t (f ∷ l) → first (walkOf L) f ≡ true
+    unfolding occurrences
+    due-first due = due .first-all f (omega (arith, ap asNumber (same-self f)))
+
+    due-open : {t : List ℕ} → Due t (f ∷ l) → Open L t f (length (contourOf L f))
+    unfolding flatten
+    due-open due i b =
+        let law = laws L sound in
+        let stick-f = first-one (walkOf L) law f (due-first due) in
+        due .untouched (stickAfter L i f) (ahead-one (walkOf L) law i f stick-f)
+        (omega (arith, sum (stickAfter L i f), on-ahead (walkOf L) law f i stick-f))
+
+    -- the runs of the first of them are ready,
+    pub due-ready : {t : List ℕ} → Due t (f ∷ l) → Ready L t f (length (contourOf L f))
+    due-ready {t} due =
+        contour-ready L sound t f (due .thinned .sane) (first-one (walkOf L) (laws L sound) f (due-first due)) (due-open due)
+
+    -- and after it the others are due
+    pub due-next : (tolerance : ℕ) (s : Progress) → Due (s .table) (f ∷ l) → Due (simplifyContour L tolerance s f .table) l
+    unfolding flatten occurrences
+    due-next tolerance s due =
+        let is-first = due-first due in
+        let all = due-open due in
+        record {
+          first-all = λ g o. due .first-all g (omega arith);
+          once = λ e. omega (arith, sum e, due .once e);
+          thinned = thinned-turn tolerance s f is-first (due .thinned) all;
+          untouched = λ e stick o.
+              outside tolerance s f is-first (due .thinned) all e stick (λ u. omega (arith, sum e, due .once e))
+              ∙ due .untouched e stick (omega (arith, sum e));
+        }
+
+  thinned-all : (tolerance : ℕ) (l : List Edge) (s : Progress) → Due (s .table) l → Thinned L (foldl (simplifyContour L tolerance) s l .table)
+  thinned-all tolerance [] s due = due .thinned
+  thinned-all tolerance (f ∷ l) s due = thinned-all tolerance l (simplifyContour L tolerance s f) (due-next f l tolerance s due)
 
   -- Simplify removes nothing else, and what it leaves is held.
 
   thinned-simplify : (tolerance : ℕ) (t : List ℕ) → AllKept L t → Thinned L (simplify L tolerance t .table)
   thinned-simplify tolerance t kept =
       subst (λ (r : Progress). Thinned L (r .table)) (sym (simplify-is L tolerance t))
-      (thinned-all tolerance (firstSticks L) (begun t) (first-sticks-only L sound)
-      (λ e. omega (arith, permutation L sound e, one-le (isStick L e)))
-      (thinned-start t kept) (λ e stick o. not-removed L t kept e stick))
+      (thinned-all tolerance (firstSticks L) (begun t) (due-start t kept))
 
   held-of-thinned : (t : List ℕ) → Thinned L t → heldAnswer L t ≡ Yes
   held-of-thinned t thinned =

@@ -16,7 +16,7 @@ pub record Outcome : Type 0 where
   pub tried : ℕ
   pub table : List ℕ
 
--- what simplifying has come to, as an outcome
+-- the result of simplifying, as an outcome
 abbrev pub finished : Progress → Outcome
 finished s = record { refusal = 0; place = 0; removed = s .removed; tried = s .tried; table = s .table }
 

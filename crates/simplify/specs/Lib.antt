@@ -1,5 +1,6 @@
--- What the promise of Simplify says.
+-- What the promise of Simplify says (Runs, Call), the same over points (Meaning), and what the contracts of its parts cite besides (Parts, Marks).
 pub mod Runs
 pub mod Parts
+pub mod Meaning
 pub mod Marks
 pub mod Call

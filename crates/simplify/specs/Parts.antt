@@ -8,6 +8,6 @@ use Rattle.simplify.specs.declared.run.RunCounts.{RunCounts}
 abbrev pub begun : List ℕ → Progress
 begun t = record { table = t; removed = 0; tried = 0 }
 
--- what the code has come to: its two counts, and the table
+-- the result of the code: its two counts, and the table
 abbrev pub reached : RunCounts → List ℕ → Progress
 reached r t = record { table = t; removed = r .removed; tried = r .tried }

@@ -33,11 +33,11 @@ abbrev pub chordPasses : Layer → List ℕ → ℕ → Position → Position �
 chordPasses L t tolerance p q u = crosses p q u && slidesWithin tolerance p q u (offsetAt L t u)
 
 -- "A run passes if it is a single edge, or if its chord crosses each stick between and each vertex there would slide at most T": a single
--- edge has no stick between
+-- edge has no stick between. Over points this is `RunPasses` (Meaning.antt).
 unfoldable pub passes : Layer → List ℕ → ℕ → Edge → ℕ → Bool
 passes L t tolerance e n = each (chordPasses L t tolerance (vertex L t e) (vertex L t (stickAfter L n e))) (between L e n)
 
--- what simplifying has come to: the table, "the vertices removed and the runs tried"
+-- the result of simplifying so far: the table, "the vertices removed and the runs tried"
 pub record Progress : Type 0 where
   pub table : List ℕ
   pub removed : ℕ

@@ -1,5 +1,6 @@
 // Trying the runs of a long contour: as those of a short one, but the middle of a run is found by marks along the contour. Walking to it from
 // the run's start costs half of the run each time that one is split, and that is most of the work where runs fail early.
+use super::marks::PLACES;
 use super::marks::put_marks;
 use super::marks::stick_at;
 use super::run::RunCounts;
@@ -30,7 +31,7 @@ fn try_long(
     bitmap: &[u8],
     table: &mut [u16],
     t: u8,
-    marks: &[u32; 32736],
+    marks: &[u32; PLACES],
     e: Edge,
     end: Edge,
     start: usize,
@@ -80,7 +81,7 @@ pub fn simplify_long(
     requires { ⌜ n ≡ length (contourOf (layerOf size (now bitmap)) first) ⌝ }
     ensures { λ r. ⌜ reached r (now (table .exit)) ≡ simplifyContour (layerOf size (now (bitmap .entry))) t (begun (now (table .entry))) first ⌝ }
 {
-    let mut marks: [u32; 32736] = [0; 32736];
+    let mut marks: [u32; PLACES] = [0; PLACES];
     put_marks(size, bitmap, first, n, &mut marks);
     let h = half_of(n);
     let middle = stick_at(size, bitmap, &marks, h);

@@ -16,11 +16,14 @@ ghost use Rattle.contour.specs.Contours.{contourOf};
 ghost use Rattle.simplify.specs.Runs.{stickAfter};
 ghost use Rattle.simplify.specs.Marks.{places, origin, Marked};
 
+// How many marks there is room for: a contour has at most 2,095,104 sticks, and one in 64 is marked.
+pub const PLACES: usize = 32736;
+
 // How many steps lead from one mark to the next.
 const APART: usize = 64;
 
 // Marks the contour of n sticks that starts at `first`.
-pub fn put_marks(size: Size, bitmap: &[u8], first: Edge, n: usize, marks: &mut [u32; 32736])
+pub fn put_marks(size: Size, bitmap: &[u8], first: Edge, n: usize, marks: &mut [u32; PLACES])
     requires { ⌜ Sound (layerOf size (now bitmap)) ⌝ }
     requires { ⌜ isStick (layerOf size (now bitmap)) first ≡ true ⌝ }
     requires { ⌜ n ≡ length (contourOf (layerOf size (now bitmap)) first) ⌝ }
@@ -44,7 +47,7 @@ fn widen(x: u32) -> usize
 }
 
 // The stick p steps on from where the marks start.
-pub fn stick_at(size: Size, bitmap: &[u8], marks: &[u32; 32736], p: usize) -> Edge
+pub fn stick_at(size: Size, bitmap: &[u8], marks: &[u32; PLACES], p: usize) -> Edge
     requires { ⌜ Sound (layerOf size (now bitmap)) ⌝ }
     requires { ⌜ Marked (layerOf size (now bitmap)) (now marks) ⌝ }
     requires { ⌜ p < length (contourOf (layerOf size (now bitmap)) (origin (layerOf size (now bitmap)) (now marks))) ⌝ }
