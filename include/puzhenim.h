@@ -32,7 +32,7 @@
  *  4  Are border samples outside? (lowest r * w + c)
  *  5  Is the table's length exact? (0)
  *  6  Is each entry 0 off sticks, and 1 to 255 or 257 to 511 on them? (lowest entry)
- *  7  Has each contour three kept vertices, and does each edge drawn between kept ones cross every removed stick between? (entry of the
+ *  7  Has each contour three kept vertices or more, and does each drawn edge cross every removed stick between its ends? (entry of the
  *     first stick of the first contour of which it is not so)
  *  8  Is the roll or sheet well formed to its last byte, a sheet also that of this bitmap with offsets 1 to 255? (byte index where the first
  *     command starts that is wrong, cut short, missing or extra)
