@@ -1,5 +1,7 @@
 // The public call Simplify.
 use super::contours::simplify_contours;
+use contour::EdgeSet;
+use contour::WORDS;
 use grid::Answer;
 use grid::Refusal;
 use grid::Size;
@@ -21,7 +23,7 @@ pub fn simplify(w: u16, h: u16, bitmap: &[u8], table: &mut [u16], t: u8) -> Simp
         width: w as usize,
         height: h as usize,
     };
-    let mut set: [u64; 16368] = [0; 16368];
+    let mut set: EdgeSet = [0; WORDS];
     let answer = held::ask_kept_firsts(size, bitmap, table, &mut set);
     match answer {
         Answer::Yes => {

@@ -1,6 +1,7 @@
 // The contours of a layer simplified one after the other, by the set of their first sticks.
 use super::run::RunCounts;
 use super::tries::simplify_contour;
+use contour::EdgeSet;
 use contour::next_first;
 use grid::Size;
 use grid::edge_at;
@@ -20,7 +21,7 @@ pub fn simplify_contours(
     bitmap: &[u8],
     table: &mut [u16],
     t: u8,
-    set: &[u64; 16368],
+    set: &EdgeSet,
 ) -> RunCounts
     requires { ⌜ Sound (layerOf size (now bitmap)) ⌝ }
     requires { ⌜ length (now table) ≡ edgeCount size ⌝ }

@@ -1,4 +1,4 @@
--- `ask_contours` meets its contract. The invariant: asking for the contours from here on answers for all of them.
+-- `ask_contours` meets its contract. The invariant: the answer for the contours from here on is that for all of them.
 use mathlib.Core.Path.{_≡_, ap, _∙_}
 use Prim.Native.Nat.{_+_, _-_, _≤_}
 use native.Mathlib.Omega.{arith}

@@ -1,4 +1,4 @@
--- `walk_vertices` meets its contract. The invariant: asking for what is left of the contour from here answers for the whole of it.
+-- `walk_vertices` meets its contract. The invariant: the answer for what is left of the contour from here is that for the whole of it.
 use mathlib.Core.Path.{sym, _∙_}
 use native.Mathlib.Omega.{arith}
 use borrow.Author.Tests.{not-true, not-false}
