@@ -7,9 +7,9 @@ use Prim.Native.Nat.{ℕ, zero, suc, _+_, _*_, _≤_, _<_}
 use native.Mathlib.Nat.{lt-of-mul-lt-mul-left, mul-le-mul-left}
 use native.Mathlib.Omega.{arith}
 use lib.Dec.{T}
-use Rattle.grid.specs.declared.cell.Side.{Side}
-use Rattle.grid.specs.declared.cell.Side.the-variants.{South, East, North, West}
-use Rattle.grid.specs.Cells.{edgeOn}
+use Rattle.step.specs.declared.cell.Side.{Side}
+use Rattle.step.specs.declared.cell.Side.the-variants.{South, East, North, West}
+use Rattle.step.specs.Cells.{edgeOn}
 use Rattle.chord.proofs.Homogeneous.{Homogeneous}
 use Rattle.chord.proofs.EdgePoints.{Within}
 use Rattle.chord.proofs.Order.{Inner}

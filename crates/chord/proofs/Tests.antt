@@ -7,13 +7,13 @@ use borrow.Author.Tests.{lt-ltb, le-ltb}
 use lib.Dec.{ltb}
 use Rattle.grid.specs.Layer.{Layer}
 use Rattle.grid.specs.Edges.{isStick}
-use Rattle.grid.specs.Walk.{next}
+use Rattle.step.specs.Walk.{next}
 use Rattle.grid.specs.Questions.{Sound}
 use Rattle.grid.specs.declared.edge.Edge.{Edge}
 use Rattle.chord.specs.Points.{Position}
 use Rattle.chord.specs.Crossing.{across, line, base, parted, meeting, total, crosses}
 use Rattle.chord.specs.Runs.{crossesRun, NearEdge}
-use Rattle.grid.proofs.Walks.{stick-sample}
+use Rattle.step.proofs.Walks.{stick-sample}
 
 -- from one side of a line to the other
 sides : ℕ → ℕ → ℕ → Bool

@@ -4,7 +4,7 @@ use super::cross::crosses_stick;
 use super::position::Position;
 use grid::Edge;
 use grid::Size;
-use grid::next_stick;
+use step::next_stick;
 ghost use mathlib.Core.Path.{_≡_};
 ghost use mathlib.Core.Bool.{true};
 ghost use Rattle.grid.specs.Layer.{layerOf};

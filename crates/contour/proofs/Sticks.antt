@@ -11,7 +11,7 @@ use Rattle.grid.specs.declared.edge.Edge.{Edge}
 use Rattle.contour.specs.Walk.{Laws}
 use Rattle.contour.specs.Contours.{walkOf, sameEdge}
 use Rattle.grid.proofs.Numbers.{number-below, edgeAt-number, edgeAt-within}
-use Rattle.grid.proofs.Walks.{next-stick, prev-stick, prev-next, next-prev}
+use Rattle.step.proofs.Walks.{next-stick, prev-stick, prev-next, next-prev}
 
 T-of : {b : Bool} → b ≡ true → T b
 T-of e = rw e tt

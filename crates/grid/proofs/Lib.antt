@@ -2,9 +2,6 @@
 pub mod Samples
 pub mod Borders
 pub mod Numbers
-pub mod Links
-pub mod Turns
-pub mod Walks
 pub mod Answers
 pub mod Masks
 pub mod Ones

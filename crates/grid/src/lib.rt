@@ -1,12 +1,9 @@
-// A layer's samples and grid edges, the sticks among them, and the step from a stick to the next on its contour; questions 1 to 4.
-mod cell;
+// A layer's samples and grid edges, the sticks among them and how many there are; questions 1 to 4.
 mod count;
 mod edge;
 mod layer;
 mod mask;
 mod question;
-mod turn;
-mod walk;
 
 pub use count::inside_count;
 pub use count::stick_count;
@@ -27,5 +24,3 @@ pub use question::Answer;
 pub use question::Refusal;
 pub use question::ask_layer;
 pub use question::refusal_number;
-pub use walk::next_stick;
-pub use walk::previous_stick;

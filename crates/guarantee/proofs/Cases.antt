@@ -10,7 +10,7 @@ use Rattle.arith.specs.Ranges.{tabulateFrom, count, leastFrom}
 use Rattle.grid.specs.Layer.{sample, bit}
 use Rattle.grid.specs.Edges.{number, edgeCount, edgeAt, isStick}
 use Rattle.grid.specs.Questions.{sidesAnswer, lengthAnswer, spareAnswer, borderAnswer}
-use Rattle.grid.specs.Walk.{next, prev}
+use Rattle.step.specs.Walk.{next, prev}
 use Rattle.contour.specs.Walk.{firstsAmong, ahead}
 use Rattle.chord.specs.Points.{Position, Point, fromX, fromY, On}
 use Rattle.chord.specs.Crossing.{off, parted, crosses, slidesWithin}

@@ -9,7 +9,7 @@ use lib.ListN.{length}
 use Rattle.arith.specs.Booleans.{asNumber, one-le, both-sides}
 use Rattle.grid.specs.Layer.{Layer}
 use Rattle.grid.specs.Edges.{isStick, inGrid, edgeAt, edgeCount, kindStart}
-use Rattle.grid.specs.Walk.{next}
+use Rattle.step.specs.Walk.{next}
 use Rattle.grid.specs.Questions.{firstNo, Sized, Sound}
 use Rattle.grid.specs.declared.layer.Size.{Size}
 use Rattle.grid.specs.declared.edge.Edge.{Edge}

@@ -9,15 +9,15 @@ use Rattle.arith.specs.Booleans.{both-sides, T-true, and-T, implied}
 use Rattle.grid.specs.Layer.{Layer}
 use Rattle.grid.specs.Edges.{isStick}
 use Rattle.grid.specs.Questions.{Sound}
-use Rattle.grid.specs.Cells.{Corners, corners, cut, partner, link, edgeOn, edgeOf, sideIndex}
-use Rattle.grid.specs.Walk.{upward, ahead, next}
-use Rattle.grid.specs.Turns.{left}
+use Rattle.step.specs.Cells.{Corners, corners, cut, partner, link, edgeOn, edgeOf, sideIndex}
+use Rattle.step.specs.Walk.{upward, ahead, next}
+use Rattle.step.specs.Turns.{left}
 use Rattle.grid.specs.declared.edge.Edge.{Edge}
-use Rattle.grid.specs.declared.cell.CellSide.{CellSide}
-use Rattle.grid.specs.declared.cell.Side.{Side}
-use Rattle.grid.specs.declared.cell.Side.the-variants.{South, East, North, West}
-use Rattle.grid.proofs.Links.{at, sameSide, same-side}
-use Rattle.grid.proofs.Walks.{edgeOf-beside, left-is, stick-cut, cell-beside, next-other, behind-next}
+use Rattle.step.specs.declared.cell.CellSide.{CellSide}
+use Rattle.step.specs.declared.cell.Side.{Side}
+use Rattle.step.specs.declared.cell.Side.the-variants.{South, East, North, West}
+use Rattle.step.proofs.Links.{at, sameSide, same-side}
+use Rattle.step.proofs.Walks.{edgeOf-beside, left-is, stick-cut, cell-beside, next-other, behind-next}
 use Rattle.chord.proofs.Homogeneous.{Homogeneous}
 use Rattle.chord.proofs.EdgePoints.{Within}
 use Rattle.chord.proofs.Order.{Inner}

@@ -13,7 +13,7 @@ use Rattle.arith.specs.Ranges.{leastFrom}
 use Rattle.grid.specs.Layer.{Layer, layerOf, sizeOf, sample, bit}
 use Rattle.grid.specs.Edges.{number, edgeCount, edgeAt, isStick}
 use Rattle.grid.specs.Questions.{sidesAnswer, lengthAnswer, spareAnswer, borderAnswer}
-use Rattle.grid.specs.Walk.{next, prev}
+use Rattle.step.specs.Walk.{next, prev}
 use Rattle.grid.specs.declared.edge.Edge.{Edge}
 use Rattle.contour.specs.Walk.{firstsAmong}
 use Rattle.chord.specs.Points.{Position, start, end, Point, point, On}

@@ -11,10 +11,10 @@ use Rattle.arith.specs.Booleans.{asNumber, one-le, both-sides}
 use Rattle.grid.specs.Layer.{Layer}
 use Rattle.grid.specs.Edges.{isStick, number, edgeCount}
 use Rattle.grid.specs.Questions.{Sound}
-use Rattle.grid.specs.Walk.{next}
+use Rattle.step.specs.Walk.{next}
 use Rattle.grid.specs.declared.edge.Edge.{Edge}
 use Rattle.grid.proofs.Numbers.{number-below}
-use Rattle.grid.proofs.Walks.{next-stick}
+use Rattle.step.proofs.Walks.{next-stick}
 use Rattle.contour.specs.Walk.{occurrences, On}
 use Rattle.contour.specs.Contours.{walkOf, contourOf, sameEdge}
 use Rattle.contour.proofs.Orbit.{same-false}

@@ -12,7 +12,7 @@ use Rattle.arith.specs.Booleans.{asNumber, both-sides}
 use Rattle.grid.specs.Layer.{Layer}
 use Rattle.grid.specs.Edges.{edgeCount}
 use Rattle.grid.specs.Questions.{Sound}
-use Rattle.grid.specs.Walk.{next}
+use Rattle.step.specs.Walk.{next}
 use Rattle.grid.specs.declared.edge.Edge.{Edge}
 use Rattle.grid.specs.declared.question.Answer.the-variants.{Yes}
 use Rattle.contour.specs.Walk.{occurrences}

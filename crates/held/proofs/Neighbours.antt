@@ -10,9 +10,9 @@ use Rattle.arith.specs.Booleans.{both-sides}
 use Rattle.grid.specs.Layer.{Layer}
 use Rattle.grid.specs.Edges.{isStick, edgeCount}
 use Rattle.grid.specs.Questions.{Sound}
-use Rattle.grid.specs.Walk.{next, prev}
+use Rattle.step.specs.Walk.{next, prev}
 use Rattle.grid.specs.declared.edge.Edge.{Edge}
-use Rattle.grid.proofs.Walks.{prev-stick, prev-next, next-prev}
+use Rattle.step.proofs.Walks.{prev-stick, prev-next, next-prev}
 use Rattle.contour.specs.Walk.{On}
 use Rattle.contour.specs.Contours.{walkOf, contourOf}
 use Rattle.contour.specs.Walk.{ahead, Round}

@@ -8,9 +8,9 @@ use Rattle.arith.specs.Booleans.{both-sides, and-split}
 use Rattle.grid.specs.Layer.{Layer}
 use Rattle.grid.specs.Edges.{isStick, edgeCount}
 use Rattle.grid.specs.Questions.{Sound}
-use Rattle.grid.specs.Walk.{next, prev}
+use Rattle.step.specs.Walk.{next, prev}
 use Rattle.grid.specs.declared.edge.Edge.{Edge}
-use Rattle.grid.proofs.Walks.{next-stick, prev-next}
+use Rattle.step.proofs.Walks.{next-stick, prev-next}
 use Rattle.contour.specs.Contours.{walkOf}
 use Rattle.contour.specs.Walk.{ahead}
 use Rattle.contour.proofs.Orbit.{ahead-next}

@@ -13,13 +13,13 @@ use Rattle.arith.specs.Booleans.{both-sides}
 use Rattle.grid.specs.Layer.{Layer}
 use Rattle.grid.specs.Edges.{isStick, edgeCount}
 use Rattle.grid.specs.Questions.{Sound}
-use Rattle.grid.specs.Cells.{edgeOn, edgeOf}
-use Rattle.grid.specs.Walk.{upward, beside, next}
+use Rattle.step.specs.Cells.{edgeOn, edgeOf}
+use Rattle.step.specs.Walk.{upward, beside, next}
 use Rattle.grid.specs.declared.edge.Edge.{Edge}
-use Rattle.grid.specs.declared.cell.CellSide.{CellSide}
-use Rattle.grid.specs.declared.cell.Side.{Side}
-use Rattle.grid.specs.declared.cell.Side.the-variants.{South, East, North, West}
-use Rattle.grid.proofs.Walks.{isUpper, behind-next}
+use Rattle.step.specs.declared.cell.CellSide.{CellSide}
+use Rattle.step.specs.declared.cell.Side.{Side}
+use Rattle.step.specs.declared.cell.Side.the-variants.{South, East, North, West}
+use Rattle.step.proofs.Walks.{isUpper, behind-next}
 use Rattle.chord.specs.Points.{Position}
 use Rattle.chord.specs.Crossing.{across, line, parted}
 use Rattle.chord.proofs.Homogeneous.{Homogeneous, weighted, acrossOf, across-weighted}

@@ -12,7 +12,7 @@ use Rattle.arith.specs.Booleans.{both-sides}
 use Rattle.grid.specs.Layer.{Layer}
 use Rattle.grid.specs.Edges.{isStick, number, edgeCount, edgeAt, stickAt}
 use Rattle.grid.specs.Questions.{Sound}
-use Rattle.grid.specs.Walk.{next, prev}
+use Rattle.step.specs.Walk.{next, prev}
 use Rattle.grid.specs.declared.edge.Edge.{Edge}
 use Rattle.grid.specs.declared.question.Refusal.the-variants.{WrongEntry}
 use Rattle.grid.specs.declared.question.Answer.the-variants.{Yes}

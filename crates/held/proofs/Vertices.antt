@@ -11,13 +11,13 @@ use Rattle.arith.specs.Booleans.{both-sides, and-split}
 use Rattle.grid.specs.Layer.{Layer}
 use Rattle.grid.specs.Edges.{isStick, inGrid, number, edgeCount}
 use Rattle.grid.specs.Questions.{Sound}
-use Rattle.grid.specs.Walk.{next}
+use Rattle.step.specs.Walk.{next}
 use Rattle.grid.specs.declared.edge.Edge.{Edge}
 use Rattle.grid.specs.declared.question.Refusal.the-variants.{WrongEntry}
 use Rattle.grid.specs.declared.question.Answer.the-variants.{Yes}
 use Rattle.grid.proofs.Answers.{each-all}
 use Rattle.grid.proofs.Numbers.{number-below, edgeAt-number}
-use Rattle.grid.proofs.Walks.{next-stick}
+use Rattle.step.proofs.Walks.{next-stick}
 use Rattle.contour.specs.Walk.{On}
 use Rattle.contour.specs.Contours.{walkOf, contourOf}
 use Rattle.contour.specs.Walk.{ahead, Round}

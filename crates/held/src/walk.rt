@@ -3,7 +3,7 @@ use super::edge::held_at;
 use contour::same_edge;
 use grid::Edge;
 use grid::Size;
-use grid::next_stick;
+use step::next_stick;
 use table::entry_at;
 use table::is_kept;
 ghost use mathlib.Core.Path.{_≡_};

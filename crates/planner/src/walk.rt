@@ -7,7 +7,7 @@ use super::item::put_item;
 use contour::same_edge;
 use grid::Edge;
 use grid::Size;
-use grid::next_stick;
+use step::next_stick;
 use table::entry_at;
 use table::is_kept;
 use table::offset_in;

@@ -7,7 +7,7 @@ use Rattle.arith.specs.Ranges.{leastFrom}
 use Rattle.grid.specs.Layer.{Layer, layerOf, sizeOf, sample, bit}
 use Rattle.grid.specs.Edges.{number, edgeCount, edgeAt, isStick}
 use Rattle.grid.specs.Questions.{sidesAnswer, lengthAnswer, spareAnswer, borderAnswer}
-use Rattle.grid.specs.Walk.{next, prev}
+use Rattle.step.specs.Walk.{next, prev}
 use Rattle.grid.specs.declared.question.Refusal.the-variants.{Malformed}
 use Rattle.grid.specs.declared.question.Answer.the-variants.{No}
 use Rattle.contour.specs.Walk.{firstsAmong}

@@ -11,9 +11,9 @@ use lib.ListN.{length}
 use Rattle.grid.specs.Layer.{Layer}
 use Rattle.grid.specs.Edges.{isStick, edgeCount}
 use Rattle.grid.specs.Questions.{Sound}
-use Rattle.grid.specs.Walk.{next, prev}
+use Rattle.step.specs.Walk.{next, prev}
 use Rattle.grid.specs.declared.edge.Edge.{Edge}
-use Rattle.grid.proofs.Walks.{next-prev}
+use Rattle.step.proofs.Walks.{next-prev}
 use Rattle.contour.specs.Walk.{Walk, Laws, ahead}
 use Rattle.contour.specs.Contours.{walkOf}
 use Rattle.contour.proofs.Orbit.{round, length-run, ahead-next, ahead-add, ahead-one}

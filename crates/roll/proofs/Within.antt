@@ -10,9 +10,9 @@ use Rattle.arith.specs.Booleans.{both-sides}
 use Rattle.grid.specs.Layer.{Layer}
 use Rattle.grid.specs.Edges.{isStick, edgeCount}
 use Rattle.grid.specs.Questions.{Sound}
-use Rattle.grid.specs.Walk.{next}
+use Rattle.step.specs.Walk.{next}
 use Rattle.grid.specs.declared.edge.Edge.{Edge}
-use Rattle.grid.proofs.Walks.{next-stick}
+use Rattle.step.proofs.Walks.{next-stick}
 use Rattle.chord.specs.Points.{Position}
 use Rattle.chord.specs.Crossing.{slidesWithin}
 use Rattle.table.specs.Vertices.{removedAt, offsetAt, removedFrom, nextKept}

@@ -8,7 +8,7 @@ use lib.ListN.{length, getD}
 use Rattle.grid.specs.Layer.{Layer}
 use Rattle.grid.specs.Edges.{isStick, inGrid, number}
 use Rattle.grid.specs.Questions.{firstNo, ifAllYes}
-use Rattle.grid.specs.Walk.{next}
+use Rattle.step.specs.Walk.{next}
 use Rattle.grid.specs.declared.layer.Size.{Size}
 use Rattle.grid.specs.declared.edge.Edge.{Edge}
 use Rattle.grid.specs.declared.question.Refusal.the-variants.{NoCrossing, BeyondTolerance}

@@ -9,7 +9,7 @@ use Rattle.arith.specs.Ranges.{leastFrom}
 use Rattle.grid.specs.Layer.{sample, bit}
 use Rattle.grid.specs.Edges.{number, edgeCount, edgeAt, isStick}
 use Rattle.grid.specs.Questions.{sidesAnswer, lengthAnswer, spareAnswer, borderAnswer}
-use Rattle.grid.specs.Walk.{next, prev}
+use Rattle.step.specs.Walk.{next, prev}
 use Rattle.contour.specs.Walk.{firstsAmong}
 use Rattle.table.specs.Entries.{entryOf, entriesAnswer, tableLengthAnswer}
 use Rattle.table.specs.Vertices.{keptAt, removedAt, offsetAt, removedFrom, keptFrom}

@@ -8,7 +8,7 @@ use Rattle.arith.specs.Ranges.{leastFrom, tabulateFrom}
 use Rattle.grid.specs.Layer.{sample, bit}
 use Rattle.grid.specs.Edges.{number, edgeCount, edgeAt, isStick}
 use Rattle.grid.specs.Questions.{sidesAnswer, lengthAnswer, spareAnswer, borderAnswer}
-use Rattle.grid.specs.Walk.{next, prev}
+use Rattle.step.specs.Walk.{next, prev}
 use Rattle.contour.specs.Walk.{firstsAmong}
 use Rattle.chord.specs.Crossing.{crosses, parted, off}
 use Rattle.table.specs.Entries.{entryOf, tableLengthAnswer}

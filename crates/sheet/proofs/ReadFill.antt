@@ -8,7 +8,7 @@ use lib.ListN.{length, set, length-set}
 use Rattle.arith.specs.Ranges.{length-tabulateFrom}
 use Rattle.grid.specs.Layer.{Layer}
 use Rattle.grid.specs.Edges.{number, isStick, edgeAt, edgeCount, kindStart}
-use Rattle.grid.specs.Walk.{next}
+use Rattle.step.specs.Walk.{next}
 use Rattle.grid.specs.Questions.{Sound}
 use Rattle.grid.specs.declared.edge.Edge.{Edge}
 use Rattle.grid.specs.declared.question.Answer.the-variants.{Yes}

@@ -8,7 +8,7 @@ use borrow.Author.Tests.{eq-eqb, ne-eqb}
 use lib.ListN.{length, getD}
 use Rattle.grid.specs.Layer.{Layer}
 use Rattle.grid.specs.Edges.{isStick, edgeAt, edgeCount, kindStart}
-use Rattle.grid.specs.Walk.{next, prev}
+use Rattle.step.specs.Walk.{next, prev}
 use Rattle.grid.specs.Questions.{Sound}
 use Rattle.grid.specs.declared.edge.Edge.{Edge}
 use Rattle.grid.specs.declared.question.Answer.the-variants.{Yes}

@@ -13,7 +13,7 @@ use lib.Seq.{split-at, length-take-le}
 use Rattle.arith.specs.Booleans.{asNumber, both-sides, and-split}
 use Rattle.grid.specs.Layer.{Layer}
 use Rattle.grid.specs.Edges.{number, edgeAt, edgeCount, isStick, stickAt}
-use Rattle.grid.specs.Walk.{next}
+use Rattle.step.specs.Walk.{next}
 use Rattle.grid.specs.Questions.{Sound}
 use Rattle.grid.specs.declared.edge.Edge.{Edge}
 use Rattle.grid.specs.declared.question.Refusal.the-variants.{WrongEntry}

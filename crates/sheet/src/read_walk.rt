@@ -14,7 +14,7 @@ use grid::Edge;
 use grid::Refusal;
 use grid::Size;
 use grid::edge_at;
-use grid::next_stick;
+use step::next_stick;
 ghost use mathlib.Core.Path.{_≡_};
 ghost use mathlib.Core.Bool.{true};
 ghost use mathlib.Core.List.{[], _∷_, map};

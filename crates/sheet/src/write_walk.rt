@@ -9,7 +9,7 @@ use grid::Edge;
 use grid::Size;
 use grid::edge_at;
 use grid::kind_start;
-use grid::next_stick;
+use step::next_stick;
 use table::entry_at;
 ghost use mathlib.Core.Path.{_≡_};
 ghost use mathlib.Core.Bool.{true};

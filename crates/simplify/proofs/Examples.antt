@@ -5,7 +5,7 @@ use mathlib.Core.List.{List, [], _∷_}
 use Prim.Native.Nat.{ℕ}
 use Rattle.grid.specs.Layer.{Layer, layerOf, sizeOf, sample, bit}
 use Rattle.grid.specs.Edges.{number, edgeCount, edgeAt, isStick}
-use Rattle.grid.specs.Walk.{next, prev}
+use Rattle.step.specs.Walk.{next, prev}
 use Rattle.contour.specs.Walk.{firstsAmong, ahead}
 use Rattle.table.specs.Entries.{entryOf}
 use Rattle.table.specs.Vertices.{offsetAt}

@@ -8,7 +8,7 @@ use lib.ListN.{length}
 use Rattle.grid.specs.Layer.{Layer}
 use Rattle.grid.specs.Edges.{edgeCount, isStick}
 use Rattle.grid.specs.Questions.{Sound}
-use Rattle.grid.specs.Walk.{next}
+use Rattle.step.specs.Walk.{next}
 use Rattle.grid.specs.declared.edge.Edge.{Edge}
 use Rattle.grid.proofs.Numbers.{edges-small}
 use Rattle.contour.specs.Walk.{ahead}

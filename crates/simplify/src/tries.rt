@@ -8,7 +8,7 @@ use super::run::stick_after;
 use contour::same_edge;
 use grid::Edge;
 use grid::Size;
-use grid::next_stick;
+use step::next_stick;
 ghost use mathlib.Core.Path.{_≡_};
 ghost use mathlib.Core.Bool.{true};
 ghost use Prim.Native.Nat.{_≤_};

@@ -7,7 +7,7 @@ use Rattle.arith.specs.Ranges.{tabulateFrom, leastFrom, count}
 use Rattle.grid.specs.Layer.{sample, bit}
 use Rattle.grid.specs.Edges.{number, edgeCount, edgeAt, isStick}
 use Rattle.grid.specs.Questions.{sidesAnswer, lengthAnswer, spareAnswer, borderAnswer}
-use Rattle.grid.specs.Walk.{next, prev}
+use Rattle.step.specs.Walk.{next, prev}
 use Rattle.contour.specs.Walk.{firstsAmong, ahead}
 use Rattle.chord.specs.Crossing.{off, parted, crosses, slidesWithin}
 use Rattle.table.specs.Entries.{entryOf, entriesAnswer, tableLengthAnswer}

@@ -6,7 +6,7 @@ use Prim.Native.Nat.{ℕ, zero, suc}
 use Rattle.arith.specs.Ranges.{count}
 use Rattle.grid.specs.Layer.{Layer, layerOf, sample, bit}
 use Rattle.grid.specs.Edges.{number, edgeCount, edgeAt, isStick}
-use Rattle.grid.specs.Walk.{next, prev}
+use Rattle.step.specs.Walk.{next, prev}
 use Rattle.contour.specs.Walk.{firstsAmong}
 use Rattle.contour.proofs.Examples.{square}
 use Rattle.table.specs.Entries.{entryOf}

@@ -8,14 +8,14 @@ use Prim.Native.Nat.{ℕ, _+_, _≤_, _<_}
 use native.Mathlib.Omega.{arith}
 use Rattle.grid.specs.Layer.{Layer}
 use Rattle.grid.specs.Edges.{isStick}
-use Rattle.grid.specs.Cells.{edgeOn, edgeOf, link}
-use Rattle.grid.specs.Walk.{upward, beside, next, prev}
+use Rattle.step.specs.Cells.{edgeOn, edgeOf, link}
+use Rattle.step.specs.Walk.{upward, beside, next, prev}
 use Rattle.grid.specs.Questions.{Sound}
 use Rattle.grid.specs.declared.edge.Edge.{Edge}
-use Rattle.grid.specs.declared.cell.Side.{Side}
-use Rattle.grid.specs.declared.cell.Side.the-variants.{South, East, North, West}
-use Rattle.grid.proofs.Links.{sameSide}
-use Rattle.grid.proofs.Walks.{isUpper, edgeOf-beside, there-other}
+use Rattle.step.specs.declared.cell.Side.{Side}
+use Rattle.step.specs.declared.cell.Side.the-variants.{South, East, North, West}
+use Rattle.step.proofs.Links.{sameSide}
+use Rattle.step.proofs.Walks.{isUpper, edgeOf-beside, there-other}
 use Rattle.chord.specs.Points.{Position, position}
 use Rattle.chord.specs.Crossing.{along, across, base, line}
 use Rattle.smooth.specs.Offset.{Apart}

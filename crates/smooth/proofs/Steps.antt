@@ -12,10 +12,10 @@ use lib.ListN.{length, getD, set, length-set}
 use lib.Seq.{getD-set-same, getD-set-other}
 use Rattle.grid.specs.Layer.{Layer}
 use Rattle.grid.specs.Edges.{number, isStick, stickAt}
-use Rattle.grid.specs.Walk.{upward, next, prev}
+use Rattle.step.specs.Walk.{upward, next, prev}
 use Rattle.grid.specs.Questions.{Sound}
 use Rattle.grid.specs.declared.edge.Edge.{Edge}
-use Rattle.grid.proofs.Walks.{next-stick, prev-stick}
+use Rattle.step.proofs.Walks.{next-stick, prev-stick}
 use Rattle.grid.proofs.Numbers.{number-below, edgeAt-number}
 use Rattle.contour.proofs.Sticks.{stick-in}
 use Rattle.chord.specs.Points.{Position, Point, Meets, slide}

@@ -10,11 +10,11 @@ use lib.ListN.{length, getD, set}
 use Rattle.arith.specs.Booleans.{both-sides}
 use Rattle.grid.specs.Layer.{Layer}
 use Rattle.grid.specs.Edges.{number, edgeCount, isStick}
-use Rattle.grid.specs.Walk.{next, prev}
+use Rattle.step.specs.Walk.{next, prev}
 use Rattle.grid.specs.Questions.{Sound}
 use Rattle.grid.specs.declared.edge.Edge.{Edge}
 use Rattle.grid.proofs.Numbers.{number-below}
-use Rattle.grid.proofs.Walks.{next-stick, prev-next}
+use Rattle.step.proofs.Walks.{next-stick, prev-next}
 use Rattle.contour.specs.Walk.{path, rest}
 use Rattle.contour.specs.Contours.{walkOf, contourOf, sameEdge}
 use Rattle.contour.proofs.Orbit.{number-inj}

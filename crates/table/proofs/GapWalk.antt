@@ -17,7 +17,7 @@ use Rattle.arith.specs.Ranges.{leastFrom}
 use Rattle.arith.specs.Finite.{least-from}
 use Rattle.grid.specs.Layer.{Layer}
 use Rattle.grid.specs.Edges.{number, edgeAt, edgeCount, isStick}
-use Rattle.grid.specs.Walk.{next, prev}
+use Rattle.step.specs.Walk.{next, prev}
 use Rattle.grid.specs.Questions.{Sound}
 use Rattle.grid.specs.declared.edge.Edge.{Edge}
 use Rattle.contour.specs.Walk.{Walk, Laws, On, contour, ahead, Round}

@@ -6,7 +6,7 @@ use Prim.Native.Nat.{ℕ}
 use borrow.Author.Tests.{not-false}
 use Rattle.grid.specs.Layer.{Layer}
 use Rattle.grid.specs.Edges.{isStick, number, edgeCount}
-use Rattle.grid.specs.Walk.{next, prev}
+use Rattle.step.specs.Walk.{next, prev}
 use Rattle.grid.specs.Questions.{Sound}
 use Rattle.grid.specs.declared.edge.Edge.{Edge}
 use Rattle.grid.specs.declared.question.Refusal.the-variants.{WrongEntry}

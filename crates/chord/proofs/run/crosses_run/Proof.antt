@@ -6,7 +6,7 @@ use borrow.Author.Tests.{not-true, not-false}
 use Rattle.grid.specs.Layer.{layerOf}
 use Rattle.grid.specs.Edges.{isStick}
 use Rattle.chord.specs.Runs.{crossesRun}
-use Rattle.grid.proofs.Walks.{next-stick}
+use Rattle.step.proofs.Walks.{next-stick}
 use Rattle.chord.proofs.Tests.{stick-near, run-none, run-missed, run-crossed}
 use Rattle.chord.proofs.run.crosses_run.Statement.{statement}
 use Rattle.chord.proofs.run.crosses_run.Tie as tie

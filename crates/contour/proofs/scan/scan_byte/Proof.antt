@@ -7,7 +7,7 @@ use borrow.Author.Needs.{needs}
 use Rattle.grid.specs.Layer.{layerOf}
 use Rattle.grid.specs.Edges.{isStick}
 use Rattle.contour.specs.Marking.{Scanned}
-use Rattle.grid.proofs.Walks.{stick-within}
+use Rattle.step.proofs.Walks.{stick-within}
 use Rattle.contour.proofs.Bytes.{Left, left-start, left-found, left-next, left-done}
 use Rattle.contour.proofs.Scans.{scan-skip, same-place}
 use Rattle.contour.proofs.scan.scan_byte.Statement.{statement}

@@ -8,7 +8,7 @@ use Rattle.grid.specs.Edges.{isStick}
 use Rattle.chord.specs.Crossing.{slidesWithin}
 use Rattle.table.specs.Vertices.{offsetIn, offsetAt}
 use Rattle.roll.specs.Chords.{withinRun}
-use Rattle.grid.proofs.Walks.{next-stick}
+use Rattle.step.proofs.Walks.{next-stick}
 use Rattle.contour.proofs.Sticks.{stick-in}
 use Rattle.chord.proofs.Tests.{stick-near}
 use Rattle.roll.proofs.Within.{within-none, within-missed, within-met}

@@ -5,7 +5,7 @@ use borrow.Author.Needs.{needs}
 use borrow.Author.Tests.{not-true, not-false}
 use Rattle.grid.specs.Layer.{layerOf}
 use Rattle.grid.specs.Edges.{isStick}
-use Rattle.grid.proofs.Walks.{next-stick}
+use Rattle.step.proofs.Walks.{next-stick}
 use Rattle.contour.proofs.Orbit.{ahead-one}
 use Rattle.contour.proofs.Sticks.{laws, stick-in}
 use Rattle.contour.specs.Contours.{walkOf}

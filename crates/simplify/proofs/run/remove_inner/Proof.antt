@@ -7,7 +7,7 @@ use borrow.Author.Needs.{needs}
 use lib.ListN.{length}
 use Rattle.grid.specs.Layer.{layerOf}
 use Rattle.grid.specs.Edges.{isStick}
-use Rattle.grid.proofs.Walks.{next-stick}
+use Rattle.step.proofs.Walks.{next-stick}
 use Rattle.simplify.specs.Runs.{between, removeVertex}
 use Rattle.simplify.proofs.Steps.{inner-none, inner-more}
 use Rattle.simplify.proofs.run.remove_inner.Statement.{statement}

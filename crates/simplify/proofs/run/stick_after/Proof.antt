@@ -4,7 +4,7 @@ use mathlib.Core.Bool.{true}
 use borrow.Author.Needs.{needs}
 use Rattle.grid.specs.Layer.{layerOf}
 use Rattle.grid.specs.Edges.{isStick}
-use Rattle.grid.proofs.Walks.{next-stick}
+use Rattle.step.proofs.Walks.{next-stick}
 use Rattle.simplify.specs.Runs.{stickAfter}
 use Rattle.simplify.proofs.Steps.{stick-none, stick-more}
 use Rattle.simplify.proofs.run.stick_after.Statement.{statement}

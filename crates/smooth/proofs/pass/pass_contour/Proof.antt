@@ -5,9 +5,9 @@ use Prim.Native.Nat.{ℕ, _+_}
 use native.Mathlib.Omega.{arith}
 use lib.ListN.{length, length-set}
 use Rattle.grid.specs.Layer.{layerOf}
-use Rattle.grid.specs.Walk.{prev}
+use Rattle.step.specs.Walk.{prev}
 use Rattle.grid.proofs.Numbers.{edges-small}
-use Rattle.grid.proofs.Walks.{prev-stick}
+use Rattle.step.proofs.Walks.{prev-stick}
 use Rattle.contour.specs.Walk.{rest}
 use Rattle.contour.specs.Contours.{walkOf, contourOf}
 use Rattle.contour.proofs.Sticks.{stick-in}

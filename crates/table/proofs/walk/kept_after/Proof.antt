@@ -7,7 +7,7 @@ use borrow.Author.Needs.{needs}
 use borrow.Author.Tests.{not-true, not-false}
 use Rattle.grid.specs.Layer.{layerOf}
 use Rattle.grid.specs.Edges.{edgeCount}
-use Rattle.grid.specs.Walk.{next, prev}
+use Rattle.step.specs.Walk.{next, prev}
 use Rattle.table.specs.Vertices.{isRemoved, removedAt}
 use Rattle.contour.proofs.Sticks.{stick-in}
 use Rattle.grid.proofs.Numbers.{edges-small}
