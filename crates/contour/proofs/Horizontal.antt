@@ -9,17 +9,16 @@ use native.Mathlib.Omega.{arith}
 use Rattle.arith.specs.Booleans.{both-sides}
 use Rattle.grid.specs.Layer.{Layer}
 use Rattle.grid.specs.Edges.{isStick, number, kindStart, edgeColumns, edgeRows}
-use Rattle.step.specs.Walk.{upward, behind, beside, next}
 use Rattle.grid.specs.Questions.{Sound}
 use Rattle.grid.specs.declared.edge.Edge.{Edge}
+use Rattle.grid.proofs.Numbers.{in-kind-below}
+use Rattle.step.specs.Walk.{upward, behind, beside, next}
 use Rattle.step.specs.declared.cell.CellSide.{CellSide}
 use Rattle.step.specs.declared.cell.Side.the-variants.{South, East, West}
-use Rattle.contour.specs.Walk.{On, first}
-use Rattle.contour.specs.Contours.{walkOf}
-use Rattle.grid.proofs.Numbers.{in-kind-below}
 use Rattle.step.proofs.Links.{sameSide}
 use Rattle.step.proofs.Walks.{inner-column, behind-next, next-stick, next-other}
-use Rattle.contour.specs.Walk.{ahead as stepped}
+use Rattle.contour.specs.Walk.{On, first, ahead as stepped}
+use Rattle.contour.specs.Contours.{walkOf}
 use Rattle.contour.proofs.Orbit.{ahead-next, ahead-one}
 use Rattle.contour.proofs.Members.{on-ahead, on-one}
 use Rattle.contour.proofs.First.{first-one, first-low, low-le}

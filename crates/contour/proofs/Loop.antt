@@ -11,8 +11,7 @@ use native.Mathlib.Nat.{eq-or-lt-of-le}
 use native.Mathlib.Omega.{arith}
 use lib.ListN.{length}
 use Rattle.arith.specs.Booleans.{asNumber}
-use Rattle.contour.specs.Walk.{Walk, Laws, rest, contour, occurrences, On}
-use Rattle.contour.specs.Walk.{ahead, Round}
+use Rattle.contour.specs.Walk.{Walk, Laws, rest, contour, occurrences, On, ahead, Round}
 use Rattle.contour.proofs.Orbit.{run, ahead-next, ahead-add, unlike, number-inj, rest-run, round}
 use Rattle.contour.proofs.Members.{run-place, run-once, place, on-self, on-next, on-ahead, on-one}
 

@@ -10,8 +10,7 @@ use native.Mathlib.Omega.{arith}
 use lib.ListN.{length, getD}
 use Rattle.arith.specs.Booleans.{asNumber, both-sides}
 use Rattle.arith.specs.Finite.{sum, sum-same, sum-add, sum-none, sum-single}
-use Rattle.contour.specs.Walk.{Walk, Laws, contour, occurrences, On}
-use Rattle.contour.specs.Walk.{ahead}
+use Rattle.contour.specs.Walk.{Walk, Laws, contour, occurrences, On, ahead}
 use Rattle.contour.proofs.Orbit.{run, ahead-next, ahead-add, same-true, same-false, ahead-one, round, contour-run}
 
 equal-counts : (a b : ℕ) → a ≤ 1 → b ≤ 1 → (0 < a → 0 < b) → (0 < b → 0 < a) → a ≡ b

@@ -17,10 +17,9 @@ use Rattle.grid.specs.Counts.{stickCount}
 use Rattle.grid.specs.Questions.{Sized, Sound}
 use Rattle.grid.specs.declared.layer.Size.{Size}
 use Rattle.grid.specs.declared.edge.Edge.{Edge}
-use Rattle.contour.specs.Walk.{occurrences, first, low, walked}
-use Rattle.contour.specs.Contours.{walkOf, contourOf, firstSticks, contourCount, earlier}
 use Rattle.grid.proofs.Numbers.{Within, within, in-kind-below}
-use Rattle.contour.specs.Walk.{ahead, Round}
+use Rattle.contour.specs.Walk.{occurrences, first, low, walked, ahead, Round}
+use Rattle.contour.specs.Contours.{walkOf, contourOf, firstSticks, contourCount, earlier}
 use Rattle.contour.proofs.Orbit.{round, contour-at}
 use Rattle.contour.proofs.Members.{place, on-ahead, in-list}
 use Rattle.contour.proofs.First.{first-one, low-first, low-once, first-unique}

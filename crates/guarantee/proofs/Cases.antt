@@ -17,8 +17,10 @@ use Rattle.chord.specs.Crossing.{off, parted, crosses, slidesWithin}
 use Rattle.chord.proofs.Crossings.{crosses→Crosses}
 use Rattle.table.specs.Entries.{entryOf, entriesAnswer, tableLengthAnswer}
 use Rattle.table.specs.Kept.{allKeptAnswer}
-use Rattle.table.specs.Vertices.{keptAt, removedAt, offsetAt, removedFrom, keptFrom}
-use Rattle.held.specs.Held.{edgeCrosses, heldContour, heldAnswer}
+use Rattle.table.specs.Vertices.{keptAt, removedAt, offsetAt}
+use Rattle.drawn.specs.Neighbours.{removedFrom, keptFrom}
+use Rattle.drawn.specs.Drawn.{edgeCrosses}
+use Rattle.held.specs.Held.{heldContour, heldAnswer}
 use Rattle.trace.specs.Trace.{traceOf}
 use Rattle.smooth.specs.Call.{smoothOf}
 use Rattle.simplify.specs.Runs.{passes}

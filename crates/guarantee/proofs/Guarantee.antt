@@ -4,11 +4,11 @@ use mathlib.Core.List.{List, [], _∷_}
 use Prim.Native.Nat.{ℕ}
 use Rattle.grid.specs.Layer.{Layer}
 use Rattle.held.specs.Questions as Held
-use Rattle.held.proofs.Faithful.{faithful}
+use Rattle.faithful.proofs.Faithful.{faithful}
 use Rattle.trace.proofs.Held.{trace-opens, trace-keeps}
-use Rattle.sheet.proofs.ReadTheorems.{read-opens, read-keeps}
 use Rattle.smooth.proofs.Held.{smooth-keeps}
 use Rattle.simplify.proofs.Held.{simplify-keeps}
+use Rattle.sheet.proofs.ReadTheorems.{read-opens, read-keeps}
 use Rattle.roll.proofs.Held.{roll-keeps}
 use Rattle.guarantee.specs.Calls.{Sheet, Call, trace, read, smooth, simplify, roll, after, afterAll, Opening, byTrace, bySheet, Accepted, opened, Guarantee}
 

@@ -6,11 +6,11 @@ use mathlib.Core.List.{List, foldl}
 use Prim.Native.Nat.{ℕ, _<_}
 use lib.ListN.{getD}
 use Rattle.grid.specs.Layer.{Layer}
-use Rattle.held.specs.Faithful.{Faithful}
+use Rattle.faithful.specs.Faithful.{Faithful}
 use Rattle.trace.specs.Trace.{traceOf}
-use Rattle.sheet.specs.Reading.{readOf}
 use Rattle.smooth.specs.Call.{smoothOf}
 use Rattle.simplify.specs.Call.{simplifyOf}
+use Rattle.sheet.specs.Reading.{readOf}
 use Rattle.roll.specs.Roll.{rollOf}
 
 -- a list of bytes: each element is below 256

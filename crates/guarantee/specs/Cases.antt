@@ -12,7 +12,7 @@ use Rattle.grid.specs.Edges.{number, edgeCount, edgeAt}
 use Rattle.grid.specs.declared.edge.Edge.{Edge}
 use Rattle.contour.specs.Contours.{contoursOf}
 use Rattle.chord.specs.Points.{Position, Point, point, On, Meets, Crosses, slide}
-use Rattle.held.specs.Held.{vertex}
+use Rattle.drawn.specs.Drawn.{vertex}
 use Rattle.trace.specs.Trace.{traceOf}
 use Rattle.smooth.specs.Call.{smoothOf}
 use Rattle.simplify.specs.Runs.{passes}

@@ -2,21 +2,21 @@
 use mathlib.Core.Path.{_≡_, refl, sym, _∙_, ap}
 use mathlib.Core.Bool.{Bool, true, false, not, _&&_, _||_}
 use mathlib.Core.List.{List, [], _∷_}
-use Prim.Native.Nat.{ℕ, zero, suc, _+_, _≤_, _<_}
+use Prim.Native.Nat.{ℕ, _+_, _≤_, _<_}
 use native.Mathlib.Omega.{arith}
 use lib.Dec.{leb}
 use lib.ListN.{length}
-use Rattle.arith.specs.Booleans.{asNumber, one-le, both-sides}
+use Rattle.arith.specs.Booleans.{asNumber, one-le}
+use Rattle.arith.specs.Lists.{each, among}
 use Rattle.grid.specs.Layer.{Layer}
-use Rattle.grid.specs.Edges.{isStick, inGrid, edgeAt, edgeCount, kindStart}
-use Rattle.step.specs.Walk.{next}
-use Rattle.grid.specs.Questions.{firstNo, Sized, Sound}
-use Rattle.grid.specs.declared.layer.Size.{Size}
+use Rattle.grid.specs.Edges.{isStick, edgeAt, edgeCount, kindStart}
+use Rattle.grid.specs.Questions.{firstNo, Sound}
 use Rattle.grid.specs.declared.edge.Edge.{Edge}
 use Rattle.grid.specs.declared.question.Refusal.the-variants.{NotHeld}
 use Rattle.grid.specs.declared.question.Answer.the-variants.{Yes, No}
-use Rattle.grid.proofs.Numbers.{within, columns-narrow, rows-small, edges-small, edgeAt-within}
+use Rattle.grid.proofs.Numbers.{within, edges-small, edgeAt-within}
 use Rattle.grid.proofs.Answers.{append-all, append-yes, firstNo-yes}
+use Rattle.step.specs.Walk.{next}
 use Rattle.contour.specs.Walk.{rest, firstsFrom}
 use Rattle.contour.specs.Contours.{walkOf, contourOf, sameEdge}
 use Rattle.contour.specs.Sets.{FirstSet, nextIn}
@@ -24,42 +24,16 @@ use Rattle.contour.proofs.Orbit.{round}
 use Rattle.contour.proofs.Loop.{Due, start, due-one, due-next, rest-more, rest-last}
 use Rattle.contour.proofs.Sticks.{laws}
 use Rattle.contour.proofs.FirstSets.{Stop, stop-below, firsts-start, firsts-turn, firsts-end}
-use Rattle.chord.specs.Points.{Position}
 use Rattle.chord.specs.Crossing.{crosses}
-use Rattle.chord.specs.Runs.{crossesRun, NearEdge}
 use Rattle.table.specs.Entries.{lengthQuestions, entriesAnswer}
 use Rattle.table.specs.Kept.{allKeptAnswer}
-use Rattle.table.specs.Vertices.{keptAt, removedAt, removedFrom, gapAfter}
-use Rattle.table.proofs.Gaps.{gap-over, gap-here}
+use Rattle.table.specs.Vertices.{keptAt}
 use Rattle.table.proofs.Lengths.{lengths-of}
-use Rattle.held.specs.Held.{each, among, edgeCrosses, heldContour, heldAnswer, firstUnheld}
+use Rattle.drawn.specs.Drawn.{edgeCrosses}
+use Rattle.held.specs.Held.{heldContour, heldAnswer, firstUnheld}
 use Rattle.held.specs.Questions.{entryQuestions, heldQuestions, keptQuestions, Accepted}
 
 -- the column and the row of an edge of the grid are below 1,024
-pub in-grid-near : (size : Size) → Sized size → (e : Edge) → inGrid size e ≡ true → NearEdge e
-in-grid-near size sized e h =
-    let w = within size e h in
-    record {
-      column-below = omega (arith, w .column-below, columns-narrow size sized (e .vertical));
-      row-below = omega (arith, w .row-below, rows-small size sized (e .vertical) (e .row + 1) (omega (arith, w .row-below)) .0);
-    }
-
--- To test the sticks of a gap is to test as many sticks as it has, one after the other
-
-each-run : (L : Layer) (t : List ℕ) (p q : Position) (n : ℕ) (e : Edge)
-    → let gap = removedFrom (next L) L t n e in
-    each (crosses p q) gap ≡ crossesRun L p q e (length gap)
-unfolding removedFrom crossesRun
-each-run L t p q zero e = refl
-each-run L t p q (suc n) e =
-    both-sides (removedAt L t (next L e))
-    (λ r. rw (gap-over (next L) L t n e r) (ap (λ (b : Bool). crosses p q (next L e) && b) (each-run L t p q n (next L e))))
-    (λ r. rw (gap-here (next L) L t (suc n) e r))
-
-pub gap-run : (L : Layer) (t : List ℕ) (p q : Position) (e : Edge)
-    → each (crosses p q) (gapAfter L t e) ≡ crossesRun L p q e (length (gapAfter L t e))
-gap-run L t p q e = each-run L t p q (edgeCount (L .size)) e
-
 -- One contour
 
 among-most : {A : Type 0} (f : A → Bool) (l : List A) → among f l ≤ length l

@@ -8,6 +8,7 @@ use Prim.Native.Nat.{ℕ, _≤_}
 use native.Mathlib.Omega.{arith}
 use lib.ListN.{length}
 use Rattle.arith.specs.Booleans.{both-sides}
+use Rattle.arith.specs.Lists.{among}
 use Rattle.grid.specs.Layer.{Layer}
 use Rattle.grid.specs.Edges.{isStick, edgeCount}
 use Rattle.grid.specs.Questions.{Sound}
@@ -19,20 +20,21 @@ use Rattle.contour.proofs.Orbit.{unlike}
 use Rattle.contour.proofs.First.{first-one}
 use Rattle.contour.proofs.Members.{on-one}
 use Rattle.contour.proofs.Sticks.{laws, same-edge}
-use Rattle.table.specs.Vertices.{keptAt, nextKept, previousKept}
-use Rattle.table.proofs.Gaps.{kept-not-removed, not-both}
+use Rattle.table.specs.Vertices.{keptAt}
 use Rattle.table.proofs.AllKept.{Inside}
-use Rattle.held.specs.Held.{among, edgeCrosses, heldAnswer}
-use Rattle.held.specs.Faithful.{Drawn}
-use Rattle.held.proofs.Vertices.{Vertices, kept-of}
-use Rattle.held.proofs.Owners.{end-drawn}
-use Rattle.held.proofs.Neighbours.{previous-next, next-previous, previous-drawn}
+use Rattle.drawn.specs.Neighbours.{nextKept, previousKept}
+use Rattle.drawn.proofs.Gaps.{kept-not-removed, not-both}
+use Rattle.drawn.specs.Drawn.{edgeCrosses, Drawn}
+use Rattle.drawn.proofs.Vertices.{Vertices, kept-of}
+use Rattle.drawn.proofs.Owners.{end-drawn}
+use Rattle.drawn.proofs.Neighbours.{previous-next, next-previous, previous-drawn}
+use Rattle.drawn.proofs.SideLemma.{not-one, not-two}
+use Rattle.drawn.proofs.FourKept.{keptFrom-on, four-kept}
+use Rattle.drawn.proofs.Removal.{OneMore, still-drawn, next-as-before, next-over-removed, crosses-as-before}
+use Rattle.drawn.proofs.Stores.{slid, slide-kept, slide-next, slide-after, slide-vertex, slide-vertices, dropped, removal-vertex, removal-vertices, removal-more}
+use Rattle.held.specs.Held.{heldAnswer}
 use Rattle.held.proofs.HeldFacts.{HeldFacts, held-of}
-use Rattle.held.proofs.SideLemma.{not-one, not-two}
-use Rattle.held.proofs.FourKept.{keptFrom-on, four-kept}
 use Rattle.held.proofs.Holding.{layer-held}
-use Rattle.held.proofs.Removal.{OneMore, still-drawn, next-as-before, next-over-removed, crosses-as-before}
-use Rattle.held.proofs.Stores.{slid, slide-kept, slide-next, slide-after, slide-vertex, slide-vertices, dropped, removal-vertex, removal-vertices, removal-more}
 
 module _ (L : Layer) (sound : Sound L) (t : List ℕ) (exact : length t ≡ edgeCount (L .size)) (vertices : Vertices L t)
     (yes-7 : heldAnswer L t ≡ Yes) (u : Edge) (drawn : Drawn L t u) where

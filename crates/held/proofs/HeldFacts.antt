@@ -8,6 +8,7 @@ use native.Mathlib.Omega.{arith}
 use borrow.Author.Tests.{leb-true}
 use lib.Dec.{leb}
 use Rattle.arith.specs.Booleans.{asNumber, both-sides, and-split}
+use Rattle.arith.specs.Lists.{each, among}
 use Rattle.grid.specs.Layer.{Layer}
 use Rattle.grid.specs.Edges.{number, isStick}
 use Rattle.grid.specs.Questions.{Sound}
@@ -22,8 +23,8 @@ use Rattle.contour.proofs.First.{first-one}
 use Rattle.contour.proofs.Sticks.{laws, same-edge, same-self}
 use Rattle.contour.proofs.Theorems.{on-one-contour, first-sticks-all}
 use Rattle.table.specs.Vertices.{keptAt}
-use Rattle.held.specs.Held.{each, among, edgeCrosses, heldContour, firstUnheld, heldAnswer}
-use Rattle.held.specs.Faithful.{Drawn}
+use Rattle.drawn.specs.Drawn.{edgeCrosses, Drawn}
+use Rattle.held.specs.Held.{heldContour, firstUnheld, heldAnswer}
 
 -- what a held layer has
 pub record HeldFacts (L : Layer) (t : List ℕ) : Type 0 where

@@ -8,6 +8,7 @@ use native.Mathlib.Omega.{arith}
 use borrow.Author.Tests.{le-leb}
 use lib.ListN.{length}
 use Rattle.arith.specs.Booleans.{asNumber, both-sides}
+use Rattle.arith.specs.Lists.{each, among}
 use Rattle.grid.specs.Layer.{Layer}
 use Rattle.grid.specs.Edges.{isStick, edgeCount}
 use Rattle.grid.specs.Questions.{firstNo, Sound}
@@ -23,11 +24,11 @@ use Rattle.table.specs.Entries.{entriesAnswer}
 use Rattle.table.specs.Kept.{allKeptAnswer}
 use Rattle.table.specs.Vertices.{keptAt, removedAt}
 use Rattle.table.proofs.AllKept.{AllKept, all-kept-of, not-removed, passes-entries}
-use Rattle.held.specs.Held.{each, among, edgeCrosses, heldContour, firstUnheld, heldAnswer}
+use Rattle.drawn.specs.Drawn.{edgeCrosses, Drawn}
+use Rattle.drawn.proofs.Vertices.{Vertices, vertices-of, kept-of}
+use Rattle.drawn.proofs.FourKept.{four-kept, nothing-crossed}
+use Rattle.held.specs.Held.{heldContour, firstUnheld, heldAnswer}
 use Rattle.held.specs.Questions.{Accepted}
-use Rattle.held.specs.Faithful.{Drawn}
-use Rattle.held.proofs.Vertices.{Vertices, vertices-of, kept-of}
-use Rattle.held.proofs.FourKept.{four-kept, nothing-crossed}
 
 module _ (L : Layer) where
   -- a test that holds of all that occurs in a list

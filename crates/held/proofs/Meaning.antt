@@ -12,23 +12,24 @@ use Rattle.arith.specs.Booleans.{asNumber, both-sides}
 use Rattle.grid.specs.Layer.{Layer}
 use Rattle.grid.specs.Edges.{edgeCount}
 use Rattle.grid.specs.Questions.{Sound}
-use Rattle.step.specs.Walk.{next}
 use Rattle.grid.specs.declared.edge.Edge.{Edge}
 use Rattle.grid.specs.declared.question.Answer.the-variants.{Yes}
+use Rattle.step.specs.Walk.{next}
 use Rattle.contour.specs.Walk.{occurrences}
 use Rattle.contour.specs.Contours.{walkOf, contourOf, sameEdge}
 use Rattle.contour.proofs.Sticks.{same-edge}
 use Rattle.chord.specs.Points.{Crosses}
 use Rattle.chord.specs.Crossing.{crosses}
 use Rattle.chord.proofs.Regions.{crosses-is}
-use Rattle.table.specs.Vertices.{keptAt, removedAt, offsetAt, removedFrom, gapAfter, nextKept}
-use Rattle.table.proofs.Gaps.{not-both, gap-over, gap-here}
-use Rattle.held.specs.Held.{vertex, heldAnswer}
-use Rattle.held.specs.Faithful.{Drawn, Between, HeldLayer}
-use Rattle.held.proofs.Vertices.{Vertices}
-use Rattle.held.proofs.Owners.{Owns, begins, goes-on, end-drawn, owned-passes, owned-crossed}
+use Rattle.table.specs.Vertices.{keptAt, removedAt, offsetAt}
+use Rattle.drawn.specs.Neighbours.{removedFrom, gapAfter, nextKept}
+use Rattle.drawn.proofs.Gaps.{not-both, gap-over, gap-here}
+use Rattle.drawn.specs.Drawn.{vertex, Drawn, Between}
+use Rattle.drawn.proofs.Vertices.{Vertices}
+use Rattle.drawn.proofs.Owners.{Owns, begins, goes-on, end-drawn, owned-passes, owned-crossed}
+use Rattle.drawn.proofs.Neighbours.{crosses-all}
+use Rattle.held.specs.Held.{heldAnswer, HeldLayer}
 use Rattle.held.proofs.HeldFacts.{held-of, among-some}
-use Rattle.held.proofs.Neighbours.{crosses-all}
 use Rattle.held.proofs.Holding.{each-all, layer-held}
 
 -- u is removed and the drawn edge from p owns it, which says that u is between the ends of that edge

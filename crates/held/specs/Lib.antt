@@ -1,4 +1,3 @@
--- Question 7, and what a held layer is shown to be.
+-- Question 7, and questions 1 to 7 in order.
 pub mod Held
 pub mod Questions
-pub mod Faithful

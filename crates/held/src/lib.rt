@@ -5,7 +5,6 @@ mod edge;
 mod question;
 mod walk;
 
-pub use edge::vertex_at;
 pub use question::ask_held_firsts;
 pub use question::ask_kept_firsts;
 pub use question::ask_layer_held;

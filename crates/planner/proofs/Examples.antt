@@ -13,8 +13,10 @@ use Rattle.step.specs.Walk.{next, prev}
 use Rattle.contour.specs.Walk.{firstsAmong}
 use Rattle.contour.specs.Contours.{firstSticks}
 use Rattle.table.specs.Entries.{entryOf, entriesAnswer, tableLengthAnswer}
-use Rattle.table.specs.Vertices.{keptAt, removedAt, offsetAt, removedFrom, keptFrom}
-use Rattle.held.specs.Held.{edgeCrosses, heldContour, heldAnswer}
+use Rattle.table.specs.Vertices.{keptAt, removedAt, offsetAt}
+use Rattle.drawn.specs.Neighbours.{removedFrom, keptFrom}
+use Rattle.drawn.specs.Drawn.{edgeCrosses}
+use Rattle.held.specs.Held.{heldContour, heldAnswer}
 use Rattle.planner.specs.Items.{inSamples}
 use Rattle.planner.specs.Plan.{Outcome, roomAnswer, answered, planOf}
 

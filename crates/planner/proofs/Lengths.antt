@@ -26,7 +26,7 @@ use Rattle.table.specs.Entries.{suits, entryOf, wrongAt, entriesAnswer}
 use Rattle.table.specs.Vertices.{isKept, keptAt}
 use Rattle.table.specs.declared.entry.Entry.{Entry}
 use Rattle.table.specs.declared.entry.Entry.the-variants.{Nothing, Kept, Removed, Wrong}
-use Rattle.held.specs.Held.{vertex}
+use Rattle.drawn.specs.Drawn.{vertex}
 use Rattle.held.specs.Questions.{Accepted}
 use Rattle.planner.specs.Items.{pointAt, keptAmong, keptOf, itemsTo, itemsOf, contourItems, byteOf, bytesOf, floatsOf}
 use Rattle.planner.specs.Writing.{keptEntry}

@@ -5,15 +5,15 @@ use mathlib.Core.List.{List, [], _∷_, foldl}
 use Prim.Native.Nat.{ℕ}
 use Rattle.grid.specs.Layer.{Layer}
 use Rattle.grid.specs.Edges.{isStick}
-use Rattle.step.specs.Walk.{next}
 use Rattle.grid.specs.Questions.{Sound}
 use Rattle.grid.specs.declared.edge.Edge.{Edge}
+use Rattle.step.specs.Walk.{next}
 use Rattle.contour.specs.Walk.{rest}
 use Rattle.contour.specs.Contours.{walkOf, sameEdge}
 use Rattle.contour.proofs.Loop.{Due, start, due-one, due-next, rest-more, rest-last}
 use Rattle.contour.proofs.Sticks.{laws}
 use Rattle.table.specs.Vertices.{keptAt}
-use Rattle.held.specs.Held.{vertex}
+use Rattle.drawn.specs.Drawn.{vertex}
 use Rattle.planner.specs.Items.{pointAt, itemTo, itemsAmong, contourItems}
 use Rattle.planner.specs.Writing.{Buffers, writeItem, Room}
 use Rattle.planner.specs.declared.item.Item.the-variants.{Close}

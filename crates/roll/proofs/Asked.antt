@@ -6,6 +6,7 @@ use Prim.Native.Nat.{ℕ, _≤_, _<_}
 use borrow.Author.Tests.{le-leb, lt-leb}
 use lib.Dec.{leb}
 use Rattle.arith.specs.Booleans.{and-split}
+use Rattle.arith.specs.Lists.{among}
 use Rattle.grid.specs.Layer.{Layer}
 use Rattle.grid.specs.Questions.{firstNo}
 use Rattle.grid.specs.Edges.{inGrid}
@@ -18,9 +19,9 @@ use Rattle.grid.proofs.Answers.{no-not-yes}
 use Rattle.contour.specs.Contours.{walkOf, contourOf}
 use Rattle.contour.proofs.Orbit.{same-false}
 use Rattle.contour.proofs.Sticks.{laws}
-use Rattle.table.specs.Vertices.{keptAt, nextKept, previousKept}
-use Rattle.held.specs.Held.{among, edgeCrosses}
-use Rattle.held.specs.Faithful.{Drawn}
+use Rattle.table.specs.Vertices.{keptAt}
+use Rattle.drawn.specs.Neighbours.{nextKept, previousKept}
+use Rattle.drawn.specs.Drawn.{edgeCrosses, Drawn}
 use Rattle.held.specs.Questions.{Accepted}
 use Rattle.held.proofs.Edits.{removal-three, removal-second, removal-third}
 use Rattle.roll.specs.Commands.{Named, askAt}

@@ -7,14 +7,16 @@ use Rattle.arith.specs.Ranges.{leastFrom}
 use Rattle.grid.specs.Layer.{Layer, layerOf, sizeOf, sample, bit}
 use Rattle.grid.specs.Edges.{number, edgeCount, edgeAt, isStick}
 use Rattle.grid.specs.Questions.{sidesAnswer, lengthAnswer, spareAnswer, borderAnswer}
-use Rattle.step.specs.Walk.{next, prev}
 use Rattle.grid.specs.declared.question.Refusal.the-variants.{Malformed}
 use Rattle.grid.specs.declared.question.Answer.the-variants.{No}
+use Rattle.step.specs.Walk.{next, prev}
 use Rattle.contour.specs.Walk.{firstsAmong}
 use Rattle.chord.specs.Crossing.{off, parted, crosses, slidesWithin}
 use Rattle.table.specs.Entries.{entryOf, entriesAnswer, tableLengthAnswer}
-use Rattle.table.specs.Vertices.{keptAt, removedAt, offsetAt, removedFrom, keptFrom}
-use Rattle.held.specs.Held.{edgeCrosses, heldContour, heldAnswer}
+use Rattle.table.specs.Vertices.{keptAt, removedAt, offsetAt}
+use Rattle.drawn.specs.Neighbours.{removedFrom, keptFrom}
+use Rattle.drawn.specs.Drawn.{edgeCrosses}
+use Rattle.held.specs.Held.{heldContour, heldAnswer}
 use Rattle.roll.specs.Commands.{rollAnswer}
 use Rattle.roll.specs.Edits.{edgeWithin}
 use Rattle.roll.specs.Roll.{Outcome, rollOf}

@@ -11,18 +11,19 @@ use lib.ListN.{length}
 use Rattle.grid.specs.Layer.{Layer}
 use Rattle.grid.specs.Edges.{isStick, edgeCount}
 use Rattle.grid.specs.Questions.{Sound}
-use Rattle.step.specs.Walk.{next, prev}
 use Rattle.grid.specs.declared.edge.Edge.{Edge}
+use Rattle.step.specs.Walk.{next, prev}
 use Rattle.step.proofs.Walks.{next-prev}
 use Rattle.contour.specs.Walk.{Walk, Laws, ahead}
 use Rattle.contour.specs.Contours.{walkOf}
 use Rattle.contour.proofs.Orbit.{round, length-run, ahead-next, ahead-add, ahead-one}
-use Rattle.table.specs.Vertices.{removedAt, removedFrom, keptFrom, gapAfter, gapBefore, nextKept, previousKept}
 use Rattle.contour.proofs.Sticks.{laws}
-use Rattle.table.proofs.Gaps.{kept-not-removed, not-both}
-use Rattle.table.proofs.GapWalk.{walkBy, forth, back, Gap, gap-run, gap-end, some-gap}
-use Rattle.held.specs.Faithful.{Drawn}
-use Rattle.held.proofs.Removal.{OneMore}
+use Rattle.table.specs.Vertices.{removedAt}
+use Rattle.drawn.specs.Neighbours.{removedFrom, keptFrom, gapAfter, gapBefore, nextKept, previousKept}
+use Rattle.drawn.proofs.Gaps.{kept-not-removed, not-both}
+use Rattle.drawn.proofs.GapWalk.{walkBy, forth, back, Gap, gap-run, gap-end, some-gap}
+use Rattle.drawn.specs.Drawn.{Drawn}
+use Rattle.drawn.proofs.Removal.{OneMore}
 
 -- the gap after e by a step, with its length and its end
 record Measured (step undo : Edge → Edge) (L : Layer) (t : List ℕ) (e : Edge) (k : ℕ) : Type 0 where

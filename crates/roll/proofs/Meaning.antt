@@ -9,6 +9,7 @@ use Prim.Native.Nat.{ℕ}
 use borrow.Author.Tests.{leb-true, le-leb}
 use lib.Dec.{leb}
 use Rattle.arith.specs.Booleans.{and-split}
+use Rattle.arith.specs.Lists.{among}
 use Rattle.grid.specs.Layer.{Layer}
 use Rattle.grid.specs.Questions.{Sound}
 use Rattle.grid.specs.declared.edge.Edge.{Edge}
@@ -19,17 +20,17 @@ use Rattle.chord.specs.Points.{Position, Crosses, MeetsWithin}
 use Rattle.chord.specs.Crossing.{crosses, slidesWithin}
 use Rattle.chord.proofs.Tolerance.{slides-is}
 use Rattle.table.specs.Entries.{entriesAnswer}
-use Rattle.table.specs.Vertices.{keptAt, offsetAt, gapAfter, nextKept, previousKept}
+use Rattle.table.specs.Vertices.{keptAt, offsetAt}
 use Rattle.table.proofs.AllKept.{Inside}
-use Rattle.held.specs.Held.{among, vertex, edgeCrosses}
-use Rattle.held.specs.Faithful.{Drawn, Between}
+use Rattle.drawn.specs.Neighbours.{gapAfter, nextKept, previousKept}
+use Rattle.drawn.specs.Drawn.{vertex, edgeCrosses, Drawn, Between}
+use Rattle.drawn.proofs.Vertices.{vertices-of}
+use Rattle.drawn.proofs.Removal.{still-drawn}
+use Rattle.drawn.proofs.Stores.{slide-kept, slide-entries, removal-vertices, removal-more, removal-entries}
 use Rattle.held.specs.Questions.{Accepted}
-use Rattle.held.proofs.Vertices.{vertices-of}
 use Rattle.held.proofs.HeldFacts.{each-at}
 use Rattle.held.proofs.Holding.{each-all}
 use Rattle.held.proofs.Meaning.{between-owned, crossing-is}
-use Rattle.held.proofs.Removal.{still-drawn}
-use Rattle.held.proofs.Stores.{slide-kept, slide-entries, removal-vertices, removal-more, removal-entries}
 use Rattle.roll.specs.Commands.{Named}
 use Rattle.roll.specs.Edits.{edgeNamed, edgeWithin, carriesKept, goodOffset, slid, without, slideAnswer, removalAnswer}
 use Rattle.roll.specs.Meaning.{CrossesRemoved, RemovedWithin, Redrawn, SlideAccepted, RemovalAccepted}

@@ -21,21 +21,21 @@ use Rattle.chord.specs.Points.{Position, position}
 use Rattle.chord.specs.Crossing.{along}
 use Rattle.chord.proofs.EdgePoints.{along-position}
 use Rattle.table.specs.Entries.{suits, wrongAt, entriesAnswer}
-use Rattle.table.specs.Vertices.{isKept, entryAt, keptAt, removedAt, offsetAt, gapAfter, gapBefore, nextKept, previousKept}
+use Rattle.table.specs.Vertices.{isKept, entryAt, keptAt, removedAt, offsetAt}
 use Rattle.table.specs.declared.entry.Entry.{Entry}
 use Rattle.table.specs.declared.entry.Entry.the-variants.{Nothing, Kept, Removed, Wrong}
-use Rattle.table.proofs.Gaps.{not-both}
 use Rattle.table.proofs.AllKept.{Inside}
-use Rattle.held.specs.Held.{vertex, edgeCrosses}
-use Rattle.held.specs.Faithful.{Drawn}
+use Rattle.drawn.specs.Neighbours.{gapAfter, gapBefore, nextKept, previousKept}
+use Rattle.drawn.proofs.Gaps.{not-both}
+use Rattle.drawn.specs.Drawn.{vertex, edgeCrosses, Drawn}
+use Rattle.drawn.proofs.Vertices.{Vertices, vertices-of}
+use Rattle.drawn.proofs.Owners.{end-drawn}
+use Rattle.drawn.proofs.Neighbours.{next-previous, previous-drawn}
+use Rattle.drawn.proofs.SideLemma.{not-one}
+use Rattle.drawn.proofs.Removal.{OneMore}
+use Rattle.drawn.proofs.Stores.{slide-removed, slide-next, slide-after, slide-offset, slide-vertex, slide-entries, slide-length, removal-vertex, removal-more, removal-entries, removal-length}
 use Rattle.held.specs.Questions.{Accepted}
-use Rattle.held.proofs.Vertices.{Vertices, vertices-of}
 use Rattle.held.proofs.HeldFacts.{HeldFacts, held-of}
-use Rattle.held.proofs.Owners.{end-drawn}
-use Rattle.held.proofs.Neighbours.{next-previous, previous-drawn}
-use Rattle.held.proofs.SideLemma.{not-one}
-use Rattle.held.proofs.Removal.{OneMore}
-use Rattle.held.proofs.Stores.{slide-removed, slide-next, slide-after, slide-offset, slide-vertex, slide-entries, slide-length, removal-vertex, removal-more, removal-entries, removal-length}
 use Rattle.held.proofs.Edits.{slide-held, removal-held}
 use Rattle.roll.specs.Edits.{goodOffset, slid, without}
 use Rattle.roll.specs.Chords.{chordOf}

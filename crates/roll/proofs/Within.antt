@@ -7,18 +7,20 @@ use Prim.Native.Nat.{ℕ, zero, suc, _-_, _≤_, _<_}
 use native.Mathlib.Omega.{arith}
 use lib.ListN.{length}
 use Rattle.arith.specs.Booleans.{both-sides}
+use Rattle.arith.specs.Lists.{each}
 use Rattle.grid.specs.Layer.{Layer}
 use Rattle.grid.specs.Edges.{isStick, edgeCount}
 use Rattle.grid.specs.Questions.{Sound}
-use Rattle.step.specs.Walk.{next}
 use Rattle.grid.specs.declared.edge.Edge.{Edge}
+use Rattle.step.specs.Walk.{next}
 use Rattle.step.proofs.Walks.{next-stick}
 use Rattle.chord.specs.Points.{Position}
 use Rattle.chord.specs.Crossing.{slidesWithin}
-use Rattle.table.specs.Vertices.{removedAt, offsetAt, removedFrom, nextKept}
-use Rattle.table.proofs.Gaps.{gap-over, gap-here}
-use Rattle.held.specs.Held.{each, vertex, edgeCrosses}
-use Rattle.held.proofs.Asking.{gap-run}
+use Rattle.table.specs.Vertices.{removedAt, offsetAt}
+use Rattle.drawn.specs.Neighbours.{removedFrom, nextKept}
+use Rattle.drawn.proofs.Gaps.{gap-over, gap-here}
+use Rattle.drawn.specs.Drawn.{vertex, edgeCrosses}
+use Rattle.drawn.proofs.Runs.{gap-run}
 use Rattle.roll.specs.declared.redraw.Chord.{Chord}
 use Rattle.roll.specs.Edits.{edgeWithin}
 use Rattle.roll.specs.Chords.{withinRun, chordOf, crossesChord, withinChord}

@@ -8,18 +8,19 @@ use lib.ListN.{length, getD}
 use Rattle.grid.specs.Layer.{Layer}
 use Rattle.grid.specs.Edges.{isStick, inGrid, number}
 use Rattle.grid.specs.Questions.{firstNo, ifAllYes}
-use Rattle.step.specs.Walk.{next}
 use Rattle.grid.specs.declared.layer.Size.{Size}
 use Rattle.grid.specs.declared.edge.Edge.{Edge}
 use Rattle.grid.specs.declared.question.Refusal.the-variants.{NoCrossing, BeyondTolerance}
 use Rattle.grid.specs.declared.question.Answer.{Answer}
+use Rattle.step.specs.Walk.{next}
 use Rattle.contour.specs.Contours.{sameEdge}
 use Rattle.chord.specs.Points.{Position}
 use Rattle.chord.specs.Crossing.{slidesWithin}
 use Rattle.chord.specs.Runs.{crossesRun, Near}
 use Rattle.table.specs.Entries.{entryOf}
-use Rattle.table.specs.Vertices.{isKept, offsetAt, gapAfter, nextKept, previousKept}
-use Rattle.held.specs.Held.{vertex}
+use Rattle.table.specs.Vertices.{isKept, offsetAt}
+use Rattle.drawn.specs.Neighbours.{gapAfter, nextKept, previousKept}
+use Rattle.drawn.specs.Drawn.{vertex}
 use Rattle.roll.specs.Commands.{Named, askAt}
 use Rattle.roll.specs.Edits.{edgeNamed, slid, without}
 use Rattle.roll.specs.declared.redraw.Chord.{Chord}

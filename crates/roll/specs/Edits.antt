@@ -4,6 +4,7 @@ use mathlib.Core.List.{List, [], _∷_}
 use Prim.Native.Nat.{ℕ, _+_}
 use lib.Dec.{eqb, leb}
 use lib.ListN.{set}
+use Rattle.arith.specs.Lists.{each, among}
 use Rattle.grid.specs.Layer.{Layer}
 use Rattle.grid.specs.Edges.{number, inGrid}
 use Rattle.grid.specs.Questions.{firstNo}
@@ -13,8 +14,9 @@ use Rattle.grid.specs.declared.question.Refusal.the-variants as Refusal
 use Rattle.grid.specs.declared.question.Answer.{Answer}
 use Rattle.contour.specs.Contours.{contourOf}
 use Rattle.chord.specs.Crossing.{slidesWithin}
-use Rattle.table.specs.Vertices.{keptAt, offsetAt, gapAfter, nextKept, previousKept}
-use Rattle.held.specs.Held.{each, among, vertex, edgeCrosses}
+use Rattle.table.specs.Vertices.{keptAt, offsetAt}
+use Rattle.drawn.specs.Neighbours.{gapAfter, nextKept, previousKept}
+use Rattle.drawn.specs.Drawn.{vertex, edgeCrosses}
 use Rattle.roll.specs.Commands.{Named, askAt}
 
 -- the edge that a command names; it means something for kinds 0 and 1 alone, which question 9 asks first

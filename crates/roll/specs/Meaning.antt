@@ -4,13 +4,14 @@ use mathlib.Core.Path.{_≡_}
 use mathlib.Core.Bool.{true}
 use mathlib.Core.List.{List}
 use Prim.Native.Nat.{ℕ, _≤_}
+use Rattle.arith.specs.Lists.{among}
 use Rattle.grid.specs.Layer.{Layer}
 use Rattle.grid.specs.declared.edge.Edge.{Edge}
 use Rattle.contour.specs.Contours.{contourOf}
 use Rattle.chord.specs.Points.{Crosses, MeetsWithin, CrossesWithin}
-use Rattle.table.specs.Vertices.{keptAt, offsetAt, nextKept, previousKept}
-use Rattle.held.specs.Held.{among, vertex}
-use Rattle.held.specs.Faithful.{Between}
+use Rattle.table.specs.Vertices.{keptAt, offsetAt}
+use Rattle.drawn.specs.Neighbours.{nextKept, previousKept}
+use Rattle.drawn.specs.Drawn.{vertex, Between}
 use Rattle.roll.specs.Commands.{Named}
 use Rattle.roll.specs.Edits.{edgeNamed, carriesKept, goodOffset, slid, without}
 

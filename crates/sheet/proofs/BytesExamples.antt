@@ -6,16 +6,24 @@ use mathlib.Core.List.{List, [], _∷_, _++_}
 use Prim.Native.Nat.{ℕ}
 use lib.ListN.{replicate}
 use Rattle.arith.specs.Ranges.{leastFrom}
-use Rattle.grid.specs.Layer.{sample, bit}
+use Rattle.grid.specs.Layer.{Layer, layerOf, sizeOf, sample, bit}
 use Rattle.grid.specs.Edges.{number, edgeCount, edgeAt, isStick}
 use Rattle.grid.specs.Questions.{sidesAnswer, lengthAnswer, spareAnswer, borderAnswer}
 use Rattle.step.specs.Walk.{next, prev}
 use Rattle.contour.specs.Walk.{firstsAmong}
 use Rattle.table.specs.Entries.{entryOf, entriesAnswer, tableLengthAnswer}
-use Rattle.table.specs.Vertices.{keptAt, removedAt, offsetAt, removedFrom, keptFrom}
-use Rattle.held.specs.Held.{edgeCrosses, heldContour, heldAnswer}
-use Rattle.held.proofs.Examples.{single, entries}
+use Rattle.table.specs.Vertices.{keptAt, removedAt, offsetAt}
+use Rattle.drawn.specs.Neighbours.{removedFrom, keptFrom}
+use Rattle.drawn.specs.Drawn.{edgeCrosses}
+use Rattle.held.specs.Held.{heldContour, heldAnswer}
 use Rattle.sheet.specs.Written.{sheetOf, writeOf}
+
+-- "W 3, H 3, inside (1,1)", with the four entries of its sticks, by number: 2, 3, 7 and 10
+abbrev pub single : Layer
+single = layerOf (sizeOf 3 3) (0 ∷ 2 ∷ 0 ∷ [])
+
+abbrev pub entries : ℕ → ℕ → ℕ → ℕ → List ℕ
+entries a b c d = 0 ∷ 0 ∷ a ∷ b ∷ 0 ∷ 0 ∷ 0 ∷ c ∷ 0 ∷ 0 ∷ d ∷ 0 ∷ []
 
 abbrev settled : List ℕ
 settled = entries 255 1 255 1

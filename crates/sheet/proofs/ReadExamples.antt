@@ -12,9 +12,11 @@ use Rattle.step.specs.Walk.{next, prev}
 use Rattle.contour.specs.Walk.{firstsAmong}
 use Rattle.chord.specs.Crossing.{crosses, parted, off}
 use Rattle.table.specs.Entries.{entryOf, tableLengthAnswer}
-use Rattle.table.specs.Vertices.{keptAt, removedAt, offsetAt, removedFrom, keptFrom}
-use Rattle.held.specs.Held.{edgeCrosses, heldContour, heldAnswer}
-use Rattle.held.proofs.Examples.{single, entries}
+use Rattle.table.specs.Vertices.{keptAt, removedAt, offsetAt}
+use Rattle.drawn.specs.Neighbours.{removedFrom, keptFrom}
+use Rattle.drawn.specs.Drawn.{edgeCrosses}
+use Rattle.held.specs.Held.{heldContour, heldAnswer}
+use Rattle.sheet.proofs.BytesExamples.{single, entries}
 use Rattle.sheet.specs.Reading.{readOf}
 
 -- "`4C 03 00 03 00 43 00 00 00 01 00 4B FF 4B FF 4B 01 4B 01 45`: size, first stick, four kept offsets, end"

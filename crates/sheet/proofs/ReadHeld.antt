@@ -8,20 +8,22 @@ use borrow.Author.Tests.{eq-eqb, ne-eqb}
 use lib.ListN.{length, getD}
 use Rattle.grid.specs.Layer.{Layer}
 use Rattle.grid.specs.Edges.{isStick, edgeAt, edgeCount, kindStart}
-use Rattle.step.specs.Walk.{next, prev}
 use Rattle.grid.specs.Questions.{Sound}
 use Rattle.grid.specs.declared.edge.Edge.{Edge}
 use Rattle.grid.specs.declared.question.Answer.the-variants.{Yes}
+use Rattle.step.specs.Walk.{next, prev}
 use Rattle.contour.specs.Walk.{firstsFrom}
 use Rattle.contour.specs.Contours.{walkOf, contourOf, sameEdge}
 use Rattle.contour.specs.Sets.{FirstSet, nextIn}
 use Rattle.contour.proofs.FirstSets.{Stop, next-stop, stop-stick, firsts-start, firsts-turn}
 use Rattle.contour.proofs.Sticks.{stick-in}
 use Rattle.chord.specs.Runs.{NearEdge}
-use Rattle.table.specs.Vertices.{removedAt, gapAfter, nextKept}
-use Rattle.table.proofs.GapWalk.{forth, Passed, passed-start, passed-below, passed-turn, passed-last}
+use Rattle.table.specs.Vertices.{removedAt}
+use Rattle.drawn.specs.Neighbours.{gapAfter, nextKept}
+use Rattle.drawn.proofs.GapWalk.{forth, Passed, passed-start, passed-below, passed-turn, passed-last}
+use Rattle.drawn.proofs.Runs.{in-grid-near}
 use Rattle.held.specs.Held.{firstUnheld, heldContour, heldAnswer}
-use Rattle.held.proofs.Asking.{in-grid-near, ask-start, ask-next}
+use Rattle.held.proofs.Asking.{ask-start, ask-next}
 use Rattle.sheet.specs.Reading.{sheetAnswer, described}
 use Rattle.sheet.specs.Places.{Begins, Standing, Stands}
 use Rattle.sheet.proofs.ReadStands.{begins-start, begins-next, begins-stands, standing-stick, standing-below, standing-after, removed-is}

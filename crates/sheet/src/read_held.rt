@@ -26,8 +26,10 @@ ghost use Rattle.contour.specs.Contours.{contourOf};
 ghost use Rattle.contour.specs.Sets.{FirstSet};
 ghost use Rattle.chord.specs.Points.{position};
 ghost use Rattle.chord.specs.Runs.{Near, NearEdge};
-ghost use Rattle.table.specs.Vertices.{keptAt, removedAt, gapAfter, nextKept};
-ghost use Rattle.held.specs.Held.{edgeCrosses, heldContour, heldAnswer};
+ghost use Rattle.table.specs.Vertices.{keptAt, removedAt};
+ghost use Rattle.drawn.specs.Neighbours.{gapAfter, nextKept};
+ghost use Rattle.drawn.specs.Drawn.{edgeCrosses};
+ghost use Rattle.held.specs.Held.{heldContour, heldAnswer};
 ghost use Rattle.sheet.specs.Reading.{sheetAnswer, described};
 ghost use Rattle.sheet.specs.Places.{Standing, Stands};
 

@@ -9,12 +9,13 @@ use native.Mathlib.Decide.{decLt}
 use native.Mathlib.Omega.{arith}
 use lib.ListN.{length}
 use Rattle.arith.specs.Booleans.{both-sides, and-split}
+use Rattle.arith.specs.Lists.{each}
 use Rattle.grid.specs.Layer.{Layer}
 use Rattle.grid.specs.Edges.{isStick, edgeCount}
-use Rattle.step.specs.Walk.{next}
 use Rattle.grid.specs.Questions.{Sound}
 use Rattle.grid.specs.declared.edge.Edge.{Edge}
 use Rattle.grid.specs.declared.question.Answer.the-variants.{Yes}
+use Rattle.step.specs.Walk.{next}
 use Rattle.step.proofs.Walks.{next-stick}
 use Rattle.contour.specs.Walk.{ahead}
 use Rattle.contour.specs.Contours.{walkOf, contourOf}
@@ -23,10 +24,10 @@ use Rattle.contour.proofs.Sticks.{laws}
 use Rattle.chord.specs.Crossing.{crosses}
 use Rattle.table.specs.Entries.{entriesAnswer}
 use Rattle.table.specs.Vertices.{removedAt}
-use Rattle.held.specs.Held.{each, vertex}
-use Rattle.held.proofs.Vertices.{vertices-of, kept-of}
-use Rattle.held.proofs.Stores.{removal-vertex, removal-more, removal-entries, removal-length}
-use Rattle.held.proofs.FourKept.{four-sticks}
+use Rattle.drawn.specs.Drawn.{vertex}
+use Rattle.drawn.proofs.Vertices.{vertices-of, kept-of}
+use Rattle.drawn.proofs.Stores.{removal-vertex, removal-more, removal-entries, removal-length}
+use Rattle.drawn.proofs.FourKept.{four-sticks}
 use Rattle.simplify.specs.Runs.{stickAfter, following, passes, chordPasses, Progress, removeVertex, half, oneTried, tryRun, simplifyContour}
 use Rattle.simplify.proofs.Trying.{Split, split, split-of, try-passes, try-splits, inner-is, contour-runs}
 

@@ -9,13 +9,14 @@ use native.Mathlib.Nat.{eq-zero-or-pos}
 use native.Mathlib.Omega.{arith}
 use lib.ListN.{length}
 use Rattle.arith.specs.Booleans.{asNumber, one-le}
+use Rattle.arith.specs.Lists.{each}
 use Rattle.grid.specs.Layer.{Layer}
 use Rattle.grid.specs.Edges.{isStick, edgeCount}
-use Rattle.step.specs.Walk.{next, prev}
 use Rattle.grid.specs.Questions.{firstNo, Sound}
 use Rattle.grid.specs.declared.edge.Edge.{Edge}
 use Rattle.grid.specs.declared.question.Answer.{Answer}
 use Rattle.grid.specs.declared.question.Answer.the-variants.{Yes, No}
+use Rattle.step.specs.Walk.{next, prev}
 use Rattle.contour.specs.Walk.{ahead, contour, occurrences, first, On}
 use Rattle.contour.specs.Contours.{walkOf, contourOf, firstSticks}
 use Rattle.contour.proofs.First.{first-one}
@@ -24,13 +25,15 @@ use Rattle.contour.proofs.Orbit.{run, ahead-one, not-before, round}
 use Rattle.contour.proofs.Sticks.{laws, same-self}
 use Rattle.contour.proofs.Theorems.{permutation, on-no-other, first-sticks-only}
 use Rattle.chord.specs.Crossing.{crosses}
-use Rattle.table.specs.Vertices.{removedAt, gapAfter, nextKept}
+use Rattle.table.specs.Vertices.{removedAt}
 use Rattle.table.proofs.AllKept.{AllKept, not-removed, passes-entries}
-use Rattle.table.proofs.Gaps.{kept-not-removed}
-use Rattle.table.proofs.GapWalk.{Gap, gap-run, gap-end}
-use Rattle.held.specs.Held.{each, vertex, edgeCrosses, heldAnswer}
+use Rattle.drawn.specs.Neighbours.{gapAfter, nextKept}
+use Rattle.drawn.proofs.Gaps.{kept-not-removed}
+use Rattle.drawn.proofs.GapWalk.{Gap, gap-run, gap-end}
+use Rattle.drawn.specs.Drawn.{vertex, edgeCrosses}
+use Rattle.drawn.proofs.Vertices.{vertices-of, kept-of}
+use Rattle.held.specs.Held.{heldAnswer}
 use Rattle.held.specs.Questions.{keptQuestions, Accepted}
-use Rattle.held.proofs.Vertices.{vertices-of, kept-of}
 use Rattle.held.proofs.Holding.{layer-held}
 use Rattle.simplify.specs.Runs.{stickAfter, Progress, simplifyContour, simplify}
 use Rattle.simplify.specs.Parts.{begun}

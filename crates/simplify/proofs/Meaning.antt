@@ -8,12 +8,13 @@ use Prim.Native.Nat.{ℕ, zero, suc, _-_, _≤_, _<_}
 use native.Mathlib.Omega.{arith}
 use lib.ListN.{length}
 use Rattle.arith.specs.Booleans.{asNumber, both-sides}
+use Rattle.arith.specs.Lists.{each}
 use Rattle.grid.specs.Layer.{Layer}
 use Rattle.grid.specs.Edges.{isStick}
-use Rattle.step.specs.Walk.{next}
 use Rattle.grid.specs.Questions.{firstNo, Sound}
 use Rattle.grid.specs.declared.edge.Edge.{Edge}
 use Rattle.grid.specs.declared.question.Answer.the-variants.{Yes}
+use Rattle.step.specs.Walk.{next}
 use Rattle.contour.specs.Walk.{ahead, occurrences}
 use Rattle.contour.specs.Contours.{walkOf, contourOf, firstSticks, sameEdge}
 use Rattle.contour.proofs.Orbit.{ahead-one}
@@ -22,9 +23,9 @@ use Rattle.chord.specs.Points.{Position, CrossesWithin}
 use Rattle.chord.proofs.Tolerance.{crosses-within-is}
 use Rattle.table.specs.Entries.{entriesAnswer}
 use Rattle.table.specs.Vertices.{offsetAt}
-use Rattle.held.specs.Held.{each, vertex}
+use Rattle.drawn.specs.Drawn.{vertex}
+use Rattle.drawn.proofs.Vertices.{vertices-of}
 use Rattle.held.specs.Questions.{keptQuestions}
-use Rattle.held.proofs.Vertices.{vertices-of}
 use Rattle.held.proofs.HeldFacts.{each-at}
 use Rattle.held.proofs.Holding.{each-all}
 use Rattle.simplify.specs.Runs.{stickAfter, following, between, chordPasses, passes, Progress, half, oneTried, tryRun, simplifyContour, simplify}

@@ -5,17 +5,18 @@ use mathlib.Core.List.{List, [], _∷_, foldl}
 use Prim.Native.Nat.{ℕ, zero, suc, _+_, _-_, _≤_, _<_}
 use native.Mathlib.Omega.{arith}
 use lib.ListN.{length}
+use Rattle.arith.specs.Lists.{each}
 use Rattle.grid.specs.Layer.{Layer}
 use Rattle.grid.specs.Edges.{edgeCount, isStick}
 use Rattle.grid.specs.Questions.{Sound}
-use Rattle.step.specs.Walk.{next}
 use Rattle.grid.specs.declared.edge.Edge.{Edge}
 use Rattle.grid.proofs.Numbers.{edges-small}
+use Rattle.step.specs.Walk.{next}
 use Rattle.contour.specs.Walk.{ahead}
 use Rattle.contour.specs.Contours.{walkOf, contourOf}
 use Rattle.contour.proofs.Orbit.{ahead-add, ahead-one, round}
 use Rattle.contour.proofs.Sticks.{laws}
-use Rattle.held.specs.Held.{each, vertex}
+use Rattle.drawn.specs.Drawn.{vertex}
 use Rattle.simplify.specs.Runs.{stickAfter, following, between, chordPasses, passes, removeVertex}
 
 module _ (L : Layer) where

@@ -10,7 +10,7 @@ use Rattle.contour.specs.Walk.{occurrences}
 use Rattle.contour.specs.Contours.{walkOf, contourOf, firstSticks}
 use Rattle.chord.specs.Points.{CrossesWithin}
 use Rattle.table.specs.Vertices.{offsetAt}
-use Rattle.held.specs.Held.{vertex}
+use Rattle.drawn.specs.Drawn.{vertex}
 use Rattle.simplify.specs.Runs.{stickAfter, between, Progress, removeInner, half, oneTried}
 use Rattle.simplify.specs.Parts.{begun}
 

@@ -4,16 +4,17 @@ use mathlib.Core.Bool.{Bool, true, false, _&&_}
 use mathlib.Core.List.{List, [], _∷_, foldl}
 use Prim.Native.Nat.{ℕ, zero, suc, _+_, _-_, _/_}
 use lib.ListN.{length, set}
+use Rattle.arith.specs.Lists.{each}
 use Rattle.grid.specs.Layer.{Layer}
 use Rattle.grid.specs.Edges.{number}
-use Rattle.step.specs.Walk.{next}
 use Rattle.grid.specs.declared.edge.Edge.{Edge}
+use Rattle.step.specs.Walk.{next}
 use Rattle.contour.specs.Walk.{ahead}
 use Rattle.contour.specs.Contours.{walkOf, contourOf, firstSticks}
 use Rattle.chord.specs.Points.{Position}
 use Rattle.chord.specs.Crossing.{crosses, slidesWithin}
 use Rattle.table.specs.Vertices.{offsetAt}
-use Rattle.held.specs.Held.{each, vertex}
+use Rattle.drawn.specs.Drawn.{vertex}
 
 -- the stick n steps on from e
 abbrev pub stickAfter : Layer → ℕ → Edge → Edge

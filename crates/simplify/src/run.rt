@@ -2,10 +2,10 @@
 use chord::Position;
 use chord::crosses_stick;
 use chord::slides_within;
+use drawn::vertex_at;
 use grid::Edge;
 use grid::Size;
 use grid::number_of;
-use held::vertex_at;
 use step::next_stick;
 use table::entry_at;
 use table::offset_in;

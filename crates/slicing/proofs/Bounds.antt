@@ -25,7 +25,7 @@ use Rattle.contour.proofs.First.{first-one}
 use Rattle.contour.proofs.Sticks.{laws}
 use Rattle.contour.proofs.Theorems.{first-sticks-only, total-length}
 use Rattle.table.specs.Entries.{entriesAnswer}
-use Rattle.held.proofs.FourKept.{four-sticks}
+use Rattle.drawn.proofs.FourKept.{four-sticks}
 use Rattle.sheet.specs.Written.{sheetOf}
 use Rattle.sheet.proofs.BytesCounted.{sheet-length}
 use Rattle.slicing.specs.Slice.{sideLimit, sideFits, sidesFit, tableLimit, answerLimit}

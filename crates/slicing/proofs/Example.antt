@@ -11,9 +11,11 @@ use Rattle.step.specs.Walk.{next, prev}
 use Rattle.contour.specs.Walk.{firstsAmong, ahead}
 use Rattle.chord.specs.Crossing.{off, parted, crosses, slidesWithin}
 use Rattle.table.specs.Entries.{entryOf, entriesAnswer, tableLengthAnswer}
-use Rattle.table.specs.Vertices.{keptAt, removedAt, offsetAt, removedFrom, keptFrom}
+use Rattle.table.specs.Vertices.{keptAt, removedAt, offsetAt}
 use Rattle.table.specs.Kept.{allKeptAnswer}
-use Rattle.held.specs.Held.{edgeCrosses, heldContour, heldAnswer}
+use Rattle.drawn.specs.Neighbours.{removedFrom, keptFrom}
+use Rattle.drawn.specs.Drawn.{edgeCrosses}
+use Rattle.held.specs.Held.{heldContour, heldAnswer}
 use Rattle.slicing.specs.Slice.{sliceOf}
 
 -- "For input hex `4C 03 00 03 00 00 02 00` it writes `4C 03 00 03 00 43 00 00 00 01 00 4B FF 4B FF 4B 01 4B 01 45`: size, first stick, four kept

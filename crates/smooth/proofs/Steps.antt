@@ -12,23 +12,23 @@ use lib.ListN.{length, getD, set, length-set}
 use lib.Seq.{getD-set-same, getD-set-other}
 use Rattle.grid.specs.Layer.{Layer}
 use Rattle.grid.specs.Edges.{number, isStick, stickAt}
-use Rattle.step.specs.Walk.{upward, next, prev}
 use Rattle.grid.specs.Questions.{Sound}
 use Rattle.grid.specs.declared.edge.Edge.{Edge}
-use Rattle.step.proofs.Walks.{next-stick, prev-stick}
 use Rattle.grid.proofs.Numbers.{number-below, edgeAt-number}
+use Rattle.step.specs.Walk.{upward, next, prev}
+use Rattle.step.proofs.Walks.{next-stick, prev-stick}
 use Rattle.contour.proofs.Sticks.{stick-in}
 use Rattle.chord.specs.Points.{Position, Point, Meets, slide}
 use Rattle.chord.specs.Crossing.{base, distance, meeting, total}
 use Rattle.table.specs.Vertices.{offsetAt}
-use Rattle.held.specs.Held.{vertex}
+use Rattle.table.proofs.AllKept.{Inside, AllKept, entry, offset-inside}
+use Rattle.drawn.specs.Drawn.{vertex}
 use Rattle.smooth.specs.Offset.{rounded, Apart}
 use Rattle.smooth.specs.Smooth.{smoothedAt, Pass, visit}
 use Rattle.smooth.proofs.Rounding.{rounded-scaled}
 use Rattle.smooth.proofs.Meeting.{meeting-inside, meets, meets-at}
 use Rattle.smooth.proofs.Neighbours.{Beside, next-beside, prev-beside, beside-apart}
 use Rattle.smooth.proofs.Offsets.{spread-some, new-is, new-inside}
-use Rattle.table.proofs.AllKept.{Inside, AllKept, entry, offset-inside}
 
 -- what a step does
 module _ (L : Layer) (s : Pass) (e : Edge) where

@@ -10,10 +10,10 @@ use lib.ListN.{length, getD, set}
 use Rattle.arith.specs.Booleans.{both-sides}
 use Rattle.grid.specs.Layer.{Layer}
 use Rattle.grid.specs.Edges.{number, edgeCount, isStick}
-use Rattle.step.specs.Walk.{next, prev}
 use Rattle.grid.specs.Questions.{Sound}
 use Rattle.grid.specs.declared.edge.Edge.{Edge}
 use Rattle.grid.proofs.Numbers.{number-below}
+use Rattle.step.specs.Walk.{next, prev}
 use Rattle.step.proofs.Walks.{next-stick, prev-next}
 use Rattle.contour.specs.Walk.{path, rest}
 use Rattle.contour.specs.Contours.{walkOf, contourOf, sameEdge}
@@ -26,7 +26,7 @@ use Rattle.chord.specs.Runs.{Near}
 use Rattle.table.specs.Entries.{entryOf}
 use Rattle.table.specs.Vertices.{offsetIn, offsetAt}
 use Rattle.table.proofs.AllKept.{Inside, AllKept, all-kept-of, offset-is, offset-inside}
-use Rattle.held.specs.Held.{vertex}
+use Rattle.drawn.specs.Drawn.{vertex}
 use Rattle.smooth.specs.Offset.{newOffset, Around}
 use Rattle.smooth.specs.Smooth.{smoothedAt, Pass, passed, visit, passContour, Ready}
 use Rattle.smooth.proofs.Steps.{visit-sum, visit-kept, visit-here, previous-vertex, next-vertex, neighbours-apart}
@@ -34,7 +34,7 @@ use Rattle.smooth.proofs.Steps.{visit-sum, visit-kept, visit-here, prev
 pub ready-kept : (L : Layer) (t : List ℕ) → Ready L t → AllKept L t
 ready-kept L t r = all-kept-of L t (r .sound .whole .sized) (r .whole) (r .entries) (r .all-kept)
 
--- the vertex of an edge, as `held::vertex_at` gives it
+-- the vertex of an edge, as `drawn::vertex_at` gives it
 pub vertex-of : (L : Layer) (t : List ℕ) (e : Edge) (p : Position) → p ≡ position e (offsetIn (entryOf (getD t (number (L .size) e) 0))) → p ≡ vertex L t e
 unfolding offsetAt
 vertex-of L t e p h = h

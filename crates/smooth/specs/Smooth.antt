@@ -8,17 +8,17 @@ use lib.Dec.{eqb, ltb}
 use lib.ListN.{length, set}
 use Rattle.grid.specs.Layer.{Layer}
 use Rattle.grid.specs.Edges.{number, edgeCount}
-use Rattle.step.specs.Walk.{next, prev}
 use Rattle.grid.specs.Counts.{stickCount}
 use Rattle.grid.specs.Questions.{Sound}
 use Rattle.grid.specs.declared.edge.Edge.{Edge}
 use Rattle.grid.specs.declared.question.Answer.the-variants.{Yes}
+use Rattle.step.specs.Walk.{next, prev}
 use Rattle.contour.specs.Contours.{contoursOf}
 use Rattle.chord.specs.Crossing.{distance}
 use Rattle.table.specs.Entries.{entriesAnswer}
 use Rattle.table.specs.Kept.{allKeptAnswer}
 use Rattle.table.specs.Vertices.{offsetAt}
-use Rattle.held.specs.Held.{vertex}
+use Rattle.drawn.specs.Drawn.{vertex}
 use Rattle.smooth.specs.Offset.{newOffset}
 
 -- the new offset of the vertex of a stick in a table whose vertices are all kept, from "its neighbours as they then are"

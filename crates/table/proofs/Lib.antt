@@ -1,7 +1,5 @@
 -- Laws on the definitions of specs/ that the proofs of this crate and of the crates above it cite.
 pub mod Runs
 pub mod Lengths
-pub mod Gaps
-pub mod GapWalk
 pub mod Suits
 pub mod AllKept

@@ -1,8 +1,7 @@
-// The hold table: an entry taken apart, questions 5, 6 and 15, and the next and the previous kept vertex of a contour.
+// The hold table: an entry taken apart, and questions 5, 6 and 15.
 mod entry;
 mod question;
 mod vertex;
-mod walk;
 
 pub use entry::Entry;
 pub use entry::entry_of;
@@ -13,6 +12,3 @@ pub use vertex::entry_at;
 pub use vertex::is_kept;
 pub use vertex::is_removed;
 pub use vertex::offset_in;
-pub use walk::EdgeEnd;
-pub use walk::kept_after;
-pub use walk::kept_before;

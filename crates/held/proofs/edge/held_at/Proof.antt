@@ -2,12 +2,13 @@
 use mathlib.Core.Path.{_≡_, sym, ap, _∙_}
 use borrow.Author.Needs.{needs}
 use Rattle.grid.specs.Layer.{layerOf}
-use Rattle.chord.specs.Runs.{crossesRun}
-use Rattle.table.specs.Vertices.{offsetAt, nextKept}
-use Rattle.held.specs.Held.{vertex, edgeCrosses}
 use Rattle.contour.proofs.Sticks.{stick-in}
-use Rattle.table.proofs.Gaps.{kept-not-removed}
-use Rattle.held.proofs.Asking.{gap-run}
+use Rattle.chord.specs.Runs.{crossesRun}
+use Rattle.table.specs.Vertices.{offsetAt}
+use Rattle.drawn.specs.Neighbours.{nextKept}
+use Rattle.drawn.specs.Drawn.{vertex, edgeCrosses}
+use Rattle.drawn.proofs.Gaps.{kept-not-removed}
+use Rattle.drawn.proofs.Runs.{gap-run}
 use Rattle.held.proofs.edge.held_at.Statement.{statement}
 use Rattle.held.proofs.edge.held_at.Tie as tie
 

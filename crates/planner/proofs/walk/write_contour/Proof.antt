@@ -12,7 +12,7 @@ use Rattle.contour.specs.Contours.{walkOf}
 use Rattle.contour.proofs.Loop.{shorter}
 use Rattle.contour.proofs.Sticks.{laws, stick-in}
 use Rattle.table.specs.Vertices.{isKept, offsetAt, keptAt}
-use Rattle.held.specs.Held.{vertex}
+use Rattle.drawn.specs.Drawn.{vertex}
 use Rattle.planner.specs.Items.{pointAt, itemTo, contourItems}
 use Rattle.planner.specs.Writing.{buffersOf, writeItem, Room}
 use Rattle.planner.specs.declared.item.Item.the-variants.{Close}

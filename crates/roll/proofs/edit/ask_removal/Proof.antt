@@ -2,12 +2,12 @@
 use mathlib.Core.Path.{sym, _∙_, ap}
 use mathlib.Core.Bool.{true≢false}
 use borrow.Author.Tests.{not-true, not-false}
+use borrow.Author.Needs.{needs}
 use Rattle.grid.specs.Layer.{layerOf}
 use Rattle.grid.specs.declared.edge.Edge.{Edge}
-use Rattle.held.specs.Faithful.{Drawn}
+use Rattle.drawn.specs.Drawn.{Drawn}
 use Rattle.roll.specs.Chords.{joinedOver, thirdLeft}
 use Rattle.roll.proofs.Asked.{names-kept, named-drawn, removal-none, removal-missed, removal-far, removal-done, removal-third-left}
-use borrow.Author.Needs.{needs}
 use Rattle.roll.proofs.edit.ask_removal.Statement.{statement}
 use Rattle.roll.proofs.edit.ask_removal.Tie as tie
 

@@ -2,12 +2,12 @@
 use mathlib.Core.Path.{sym, _∙_, ap}
 use native.Mathlib.Omega.{arith}
 use borrow.Author.Tests.{not-true, not-false}
+use borrow.Author.Needs.{needs}
 use Rattle.grid.specs.Layer.{layerOf}
 use Rattle.grid.specs.declared.edge.Edge.{Edge}
-use Rattle.held.specs.Faithful.{Drawn}
+use Rattle.drawn.specs.Drawn.{Drawn}
 use Rattle.roll.specs.Chords.{slidInto, slidOut}
 use Rattle.roll.proofs.Asked.{bad-offset, good-offset, names-kept, named-drawn, slide-none, slide-bad, slide-asked}
-use borrow.Author.Needs.{needs}
 use Rattle.roll.proofs.edit.ask_slide.Statement.{statement}
 use Rattle.roll.proofs.edit.ask_slide.Tie as tie
 

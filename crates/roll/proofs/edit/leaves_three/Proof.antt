@@ -1,13 +1,14 @@
 -- `leaves_three` meets its contract.
 use mathlib.Core.Path.{_≡_, sym, _∙_, ap}
 use mathlib.Core.Bool.{Bool, true, false, not, _&&_}
+use borrow.Author.Needs.{needs}
 use Rattle.grid.specs.Layer.{layerOf}
 use Rattle.grid.specs.declared.edge.Edge.{Edge}
 use Rattle.contour.specs.Contours.{sameEdge}
-use Rattle.table.specs.Vertices.{removedAt, nextKept}
-use Rattle.table.proofs.Gaps.{kept-not-removed}
+use Rattle.table.specs.Vertices.{removedAt}
+use Rattle.drawn.specs.Neighbours.{nextKept}
+use Rattle.drawn.proofs.Gaps.{kept-not-removed}
 use Rattle.roll.proofs.Redrawn.{after-drawn}
-use borrow.Author.Needs.{needs}
 use Rattle.roll.proofs.edit.leaves_three.Statement.{statement}
 use Rattle.roll.proofs.edit.leaves_three.Tie as tie
 

@@ -5,8 +5,8 @@ use Rattle.grid.specs.Layer.{layerOf}
 use Rattle.grid.proofs.Numbers.{edges-small}
 use Rattle.contour.proofs.Sticks.{stick-in}
 use Rattle.table.specs.Vertices.{offsetAt}
-use Rattle.table.proofs.Gaps.{kept-not-removed}
-use Rattle.held.specs.Held.{vertex}
+use Rattle.drawn.proofs.Gaps.{kept-not-removed}
+use Rattle.drawn.specs.Drawn.{vertex}
 use Rattle.roll.proofs.GapLengths.{before-most, after-most}
 use Rattle.roll.proofs.Redrawn.{removal-over}
 use Rattle.roll.proofs.redraw.joined.Statement.{statement}

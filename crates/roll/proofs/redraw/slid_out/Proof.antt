@@ -4,8 +4,8 @@ use Rattle.grid.specs.Layer.{layerOf}
 use Rattle.contour.proofs.Sticks.{stick-in}
 use Rattle.chord.proofs.Tests.{stick-near}
 use Rattle.table.specs.Vertices.{offsetAt}
-use Rattle.table.proofs.Gaps.{kept-not-removed}
-use Rattle.held.specs.Held.{vertex}
+use Rattle.drawn.proofs.Gaps.{kept-not-removed}
+use Rattle.drawn.specs.Drawn.{vertex}
 use Rattle.roll.proofs.Redrawn.{inside-of, slide-out}
 use Rattle.roll.proofs.redraw.slid_out.Statement.{statement}
 use Rattle.roll.proofs.redraw.slid_out.Tie as tie

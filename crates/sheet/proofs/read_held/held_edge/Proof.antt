@@ -5,10 +5,10 @@ use lib.ListN.{getD}
 use Rattle.grid.specs.Layer.{layerOf}
 use Rattle.chord.specs.Points.{position}
 use Rattle.chord.specs.Runs.{crossesRun}
-use Rattle.table.specs.Vertices.{nextKept}
-use Rattle.table.proofs.Gaps.{kept-not-removed}
-use Rattle.held.specs.Held.{vertex, edgeCrosses}
-use Rattle.held.proofs.Asking.{gap-run}
+use Rattle.drawn.specs.Neighbours.{nextKept}
+use Rattle.drawn.proofs.Gaps.{kept-not-removed}
+use Rattle.drawn.specs.Drawn.{vertex, edgeCrosses}
+use Rattle.drawn.proofs.Runs.{gap-run}
 use Rattle.sheet.specs.Reading.{described}
 use Rattle.sheet.proofs.ReadStands.{standing-stick, offset-is}
 use Rattle.sheet.proofs.ReadHeld.{standing-room, standing-near}

@@ -8,7 +8,7 @@ use lib.ListN.{length}
 use Rattle.grid.specs.Layer.{layerOf}
 use Rattle.grid.specs.declared.edge.Edge.{Edge}
 use Rattle.contour.specs.Contours.{contourOf}
-use Rattle.held.proofs.FourKept.{four-sticks}
+use Rattle.drawn.proofs.FourKept.{four-sticks}
 use Rattle.simplify.specs.Runs.{stickAfter}
 use Rattle.simplify.specs.Marks.{origin}
 use Rattle.simplify.proofs.Steps.{stick-none, once-round, most-sticks}

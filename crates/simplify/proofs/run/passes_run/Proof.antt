@@ -3,6 +3,7 @@ use mathlib.Core.Path.{_≡_, sym, _∙_}
 use mathlib.Core.Bool.{true}
 use borrow.Author.Needs.{needs}
 use borrow.Author.Tests.{not-true, not-false}
+use Rattle.arith.specs.Lists.{each}
 use Rattle.grid.specs.Layer.{layerOf}
 use Rattle.grid.specs.Edges.{isStick}
 use Rattle.step.proofs.Walks.{next-stick}
@@ -10,7 +11,7 @@ use Rattle.contour.proofs.Orbit.{ahead-one}
 use Rattle.contour.proofs.Sticks.{laws, stick-in}
 use Rattle.contour.specs.Contours.{walkOf}
 use Rattle.table.specs.Vertices.{offsetAt}
-use Rattle.held.specs.Held.{each, vertex}
+use Rattle.drawn.specs.Drawn.{vertex}
 use Rattle.simplify.specs.Runs.{between, chordPasses, passes}
 use Rattle.simplify.proofs.Steps.{each-none, each-failed, each-passed, passes-is}
 use Rattle.simplify.proofs.run.passes_run.Statement.{statement}

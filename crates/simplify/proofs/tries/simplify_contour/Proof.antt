@@ -5,7 +5,7 @@ use native.Mathlib.Omega.{arith}
 use borrow.Author.Needs.{needs}
 use Rattle.grid.specs.Layer.{layerOf}
 use Rattle.grid.specs.Edges.{edgeCount}
-use Rattle.held.proofs.FourKept.{four-sticks}
+use Rattle.drawn.proofs.FourKept.{four-sticks}
 use Rattle.simplify.proofs.Steps.{stick-on, once-round, most-sticks}
 use Rattle.simplify.proofs.Trying.{Split, split-of, end-of, contour-joined, parts-small}
 use Rattle.simplify.proofs.tries.simplify_contour.Statement.{statement}

@@ -5,15 +5,15 @@ use Prim.Native.Nat.{ℕ, _+_}
 use native.Mathlib.Omega.{arith}
 use lib.ListN.{length, length-set}
 use Rattle.grid.specs.Layer.{layerOf}
-use Rattle.step.specs.Walk.{prev}
 use Rattle.grid.proofs.Numbers.{edges-small}
+use Rattle.step.specs.Walk.{prev}
 use Rattle.step.proofs.Walks.{prev-stick}
 use Rattle.contour.specs.Walk.{rest}
 use Rattle.contour.specs.Contours.{walkOf, contourOf}
 use Rattle.contour.proofs.Sticks.{stick-in}
 use Rattle.chord.specs.Points.{position}
-use Rattle.held.specs.Held.{vertex}
-use Rattle.held.proofs.Asking.{in-grid-near}
+use Rattle.drawn.specs.Drawn.{vertex}
+use Rattle.drawn.proofs.Runs.{in-grid-near}
 use Rattle.smooth.specs.Smooth.{passed, passContour}
 use Rattle.smooth.proofs.Walking.{ready-kept, vertex-of, Going, going-start, here-stick, here-below, there-stick, there-below, there-inside, around, total-within, goes-on, goes-less, goes-home}
 use Rattle.smooth.proofs.pass.pass_contour.Statement.{statement}

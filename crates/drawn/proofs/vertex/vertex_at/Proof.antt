@@ -1,0 +1,27 @@
+-- `vertex_at` meets its contract.
+use mathlib.Core.Path.{ap, _∙_}
+use borrow.Author.Needs.{needs}
+use Rattle.chord.specs.Points.{position}
+use Rattle.table.specs.Vertices.{offsetIn}
+use Rattle.drawn.proofs.Runs.{in-grid-near}
+use Rattle.drawn.proofs.vertex.vertex_at.Statement.{statement}
+use Rattle.drawn.proofs.vertex.vertex_at.Tie as tie
+
+entry-at-requires : tie.Need-entry-at-requires
+entry-at-requires c κs = search needs
+
+offset-in-requires : tie.Need-offset-in-requires
+offset-in-requires c κs = search needs
+
+position-of-requires : tie.Need-position-of-requires
+position-of-requires c κs = in-grid-near (c .before .before .before .args .size) (c .before .before .before .pre .0) (c .before .before .before .args .e) (c .before .before .before .pre .1 .1)
+
+returns : tie.Need-returns
+returns c =
+    let a = c .before .before .before .before .args in
+    let offset = c .before .offset-in .ensures ∙ ap offsetIn (c .before .before .entry-at .ensures) in
+    (c .position-of .ensures .0 ∙ ap (position (a .e)) offset, c .position-of .ensures .1)
+
+pub vertex-at-spec : {M : Type 1} → statement M
+vertex-at-spec =
+    tie.close (tie.spec entry-at-requires offset-in-requires position-of-requires returns)

@@ -1,0 +1,65 @@
+// The next and the previous kept vertex of a contour, by a walk over the removed ones.
+use grid::Edge;
+use grid::Size;
+use step::next_stick;
+use step::previous_stick;
+use table::entry_at;
+use table::is_removed;
+ghost use mathlib.Core.Path.{_≡_};
+ghost use mathlib.Core.Bool.{true, false};
+ghost use lib.ListN.{length};
+ghost use Rattle.grid.specs.Layer.{layerOf};
+ghost use Rattle.grid.specs.Edges.{isStick, edgeCount};
+ghost use Rattle.grid.specs.Questions.{Sound};
+ghost use Rattle.table.specs.Vertices.{removedAt};
+ghost use Rattle.drawn.specs.Neighbours.{gapAfter, gapBefore, nextKept, previousKept};
+
+// The other end of the drawn edge that starts or ends at a stick, and how many removed sticks lie between.
+pub struct EdgeEnd {
+    pub stick: Edge,
+    pub gap: usize,
+}
+
+// The next kept stick after e. As e is not removed, the walk ends when it is back at e, if not before.
+pub fn kept_after(size: Size, bitmap: &[u8], table: &[u16], e: Edge) -> EdgeEnd
+    requires { ⌜ Sound (layerOf size (now bitmap)) ⌝ }
+    requires { ⌜ length (now table) ≡ edgeCount size ⌝ }
+    requires { ⌜ isStick (layerOf size (now bitmap)) e ≡ true ⌝ }
+    requires { ⌜ removedAt (layerOf size (now bitmap)) (now table) e ≡ false ⌝ }
+    ensures { λ r. ⌜ r .stick ≡ nextKept (layerOf size (now (bitmap .entry))) (now (table .entry)) e ⌝ }
+    ensures { λ r. ⌜ r .gap ≡ length (gapAfter (layerOf size (now (bitmap .entry))) (now (table .entry)) e) ⌝ }
+    ensures { λ r. ⌜ isStick (layerOf size (now (bitmap .entry))) (r .stick) ≡ true ⌝ }
+{
+    let mut at = e;
+    let mut gap: usize = 0;
+    loop {
+        at = next_stick(size, bitmap, at);
+        if !is_removed(entry_at(size, table, at)) {
+            break;
+        }
+        gap += 1;
+    }
+    EdgeEnd { stick: at, gap }
+}
+
+// The kept stick before e, by the walk back.
+pub fn kept_before(size: Size, bitmap: &[u8], table: &[u16], e: Edge) -> EdgeEnd
+    requires { ⌜ Sound (layerOf size (now bitmap)) ⌝ }
+    requires { ⌜ length (now table) ≡ edgeCount size ⌝ }
+    requires { ⌜ isStick (layerOf size (now bitmap)) e ≡ true ⌝ }
+    requires { ⌜ removedAt (layerOf size (now bitmap)) (now table) e ≡ false ⌝ }
+    ensures { λ r. ⌜ r .stick ≡ previousKept (layerOf size (now (bitmap .entry))) (now (table .entry)) e ⌝ }
+    ensures { λ r. ⌜ r .gap ≡ length (gapBefore (layerOf size (now (bitmap .entry))) (now (table .entry)) e) ⌝ }
+    ensures { λ r. ⌜ isStick (layerOf size (now (bitmap .entry))) (r .stick) ≡ true ⌝ }
+{
+    let mut at = e;
+    let mut gap: usize = 0;
+    loop {
+        at = previous_stick(size, bitmap, at);
+        if !is_removed(entry_at(size, table, at)) {
+            break;
+        }
+        gap += 1; // a removed stick lies between
+    }
+    EdgeEnd { stick: at, gap }
+}
