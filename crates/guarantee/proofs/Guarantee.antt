@@ -5,12 +5,12 @@ use Prim.Native.Nat.{ℕ}
 use Rattle.grid.specs.Layer.{Layer}
 use Rattle.held.specs.Questions as Held
 use Rattle.faithful.proofs.Faithful.{faithful}
-use Rattle.trace.proofs.Held.{trace-opens, trace-keeps}
 use Rattle.smooth.proofs.Held.{smooth-keeps}
 use Rattle.simplify.proofs.Held.{simplify-keeps}
 use Rattle.sheet.proofs.ReadTheorems.{read-opens, read-keeps}
 use Rattle.roll.proofs.Held.{roll-keeps}
 use Rattle.guarantee.specs.Calls.{Sheet, Call, trace, read, smooth, simplify, roll, after, afterAll, Opening, byTrace, bySheet, Accepted, opened, Guarantee}
+use Rattle.guarantee.proofs.TraceHeld.{trace-opens, trace-keeps}
 
 module _ (L : Layer) where
   opens : (t : List ℕ) (opening : Opening) → Accepted L t opening → Held.Accepted L (opened L t opening)

@@ -1,7 +1,7 @@
 -- After an accepted Trace nothing is refused: neither Smooth, nor Simplify, nor the writing of the sheet to an output that holds it. So the
 -- program refuses exactly what Trace does, and what its command or its sides do. And no answer is longer than 28,230 bytes.
 use mathlib.Core.Path.{_≡_, refl, sym, ap, subst, _∙_}
-use mathlib.Core.Bool.{Bool, true, false, cond}
+use mathlib.Core.Bool.{true}
 use mathlib.Core.List.{List, [], _∷_}
 use Prim.Native.Nat.{ℕ, _≤_}
 use native.Mathlib.Omega.{arith}
@@ -10,21 +10,21 @@ use lib.Dec.{eqb, lit≤}
 use lib.ListN.{length, replicate}
 use lib.Seq.{length-sets}
 use Rattle.arith.specs.Booleans.{both-sides}
-use Rattle.arith.specs.Ranges.{tabulate, getD-tabulate}
 use Rattle.grid.specs.Layer.{Layer}
-use Rattle.grid.specs.Edges.{edgeCount, stickAt}
+use Rattle.grid.specs.Edges.{edgeCount}
 use Rattle.grid.specs.Questions.{firstNo}
 use Rattle.grid.specs.declared.question.Refusal.the-variants as Refusal
 use Rattle.grid.specs.declared.question.Answer.{Answer}
 use Rattle.grid.specs.declared.question.Answer.the-variants.{Yes, No}
-use Rattle.grid.proofs.Answers.{number-some, append-yes, each-yes}
-use Rattle.table.specs.Entries.{entryOf, lengthQuestions}
-use Rattle.table.specs.Vertices.{isRemoved}
-use Rattle.table.specs.Kept.{isRemovedAt, allKeptAnswer}
+use Rattle.grid.proofs.Answers.{number-some, append-yes}
+use Rattle.table.specs.Entries.{lengthQuestions}
+use Rattle.table.specs.Kept.{allKeptAnswer}
+use Rattle.table.proofs.AllKept.{passes-all-kept}
 use Rattle.held.specs.Questions.{heldQuestions, keptQuestions, Accepted}
 use Rattle.held.proofs.Asking.{accepted-yes}
-use Rattle.trace.specs.Trace.{Outcome, tracedEntry, traceOf}
-use Rattle.trace.proofs.Held.{trace-opens}
+use Rattle.held.proofs.Holding.{all-kept-accepted}
+use Rattle.trace.specs.Trace.{Outcome, traceOf}
+use Rattle.trace.proofs.Kept.{trace-kept}
 use Rattle.smooth.specs.Call.{smoothOf}
 use Rattle.smooth.proofs.Held as Smooth
 use Rattle.simplify.specs.Call.{simplifyOf}
@@ -54,27 +54,22 @@ module _ (L : Layer) (t : List ℕ) (done : traceOf L t .refusal ≡ 0) where
       let last : firstNo (allKeptAnswer (L .size) u ∷ []) ≡ Yes = rw kept in
       sym (append-yes (heldQuestions L u) (allKeptAnswer (L .size) u ∷ []) (held-yes u accepted)) ∙ last
 
-  -- Trace removes nothing
+  -- what Trace leaves is held, and nothing of it is removed
+  traced-accepted : Accepted L (traceOf L t .table)
+  traced-accepted = let kept = trace-kept L t done in all-kept-accepted L (traceOf L t .table) (kept .0) (kept .1)
+
   traced-kept : allKeptAnswer (L .size) (traceOf L t .table) ≡ Yes
-  unfolding allKeptAnswer traceOf entryOf
-  traced-kept =
-      let n = edgeCount (L .size) in
-      rw yes-5 (sym (each-yes Refusal.SomeRemoved (isRemovedAt (tabulate (tracedEntry L) n)) n λ k below.
-      rw (getD-tabulate (tracedEntry L) n k 0 below) (unremoved (stickAt L k))))
-    where
-      unremoved : (b : Bool) → isRemoved (entryOf (cond b 128 0)) ≡ false
-      unremoved true = refl
-      unremoved false = refl
+  traced-kept = let kept = trace-kept L t done in passes-all-kept L (traceOf L t .table) (kept .1) (kept .0 .whole .sized)
 
   traced-yes : firstNo (keptQuestions L (traceOf L t .table)) ≡ Yes
-  traced-yes = kept-yes (traceOf L t .table) (trace-opens L t done) traced-kept
+  traced-yes = kept-yes (traceOf L t .table) traced-accepted traced-kept
 
   -- what is written is a held layer
   pub thinned-accepted : Accepted L (thinned L (traceOf L t .table))
   unfolding thinned
   thinned-accepted =
       simplify-keeps L tolerance (smoothOf L passLimit (traceOf L t .table) .table)
-      (Smooth.smooth-keeps L passLimit (traceOf L t .table) (trace-opens L t done))
+      (Smooth.smooth-keeps L passLimit (traceOf L t .table) traced-accepted)
 
   pub thinned-yes : firstNo (heldQuestions L (thinned L (traceOf L t .table))) ≡ Yes
   thinned-yes = held-yes (thinned L (traceOf L t .table)) thinned-accepted

@@ -1,3 +1,3 @@
--- Laws on the definitions of specs/ that the proofs of this crate cite, and that Trace leaves a held layer.
+-- Laws on the definitions of specs/ that the proofs of this crate cite, and what an accepted Trace leaves.
 pub mod Entries
-pub mod Held
+pub mod Kept

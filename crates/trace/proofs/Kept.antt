@@ -1,4 +1,4 @@
--- What Trace leaves is a held layer: every vertex is kept. So an accepted Trace may open a list of calls, and one among them keeps it held.
+-- What an accepted Trace leaves: every stick carries a kept vertex, and every other entry is 0.
 use mathlib.Core.Path.{_≡_, refl, sym, ap, _∙_}
 use mathlib.Core.Bool.{Bool, true, false, cond}
 use mathlib.Core.List.{List}
@@ -18,14 +18,12 @@ use Rattle.contour.proofs.Sticks.{stick-in}
 use Rattle.table.specs.Entries.{lengthQuestions}
 use Rattle.table.proofs.Lengths.{lengths-of}
 use Rattle.table.proofs.AllKept.{Inside, AllKept}
-use Rattle.held.specs.Questions.{Accepted}
-use Rattle.held.proofs.Holding.{all-kept-accepted}
 use Rattle.trace.specs.Trace.{tracedEntry, traceOf}
 
-abbrev tracedTable : Layer → List ℕ
+abbrev pub tracedTable : Layer → List ℕ
 tracedTable L = tabulate (tracedEntry L) (edgeCount (L .size))
 
-traced-kept : (L : Layer) → Sound L → AllKept L (tracedTable L)
+pub traced-kept : (L : Layer) → Sound L → AllKept L (tracedTable L)
 traced-kept L sound =
     record {
       whole = length-tabulateFrom (tracedEntry L) 0 (edgeCount (L .size));
@@ -41,24 +39,11 @@ traced-kept L sound =
           getD-tabulate (tracedEntry L) (edgeCount (L .size)) k 0 below ∙ ap (λ (b : Bool). cond b 128 0) none;
     }
 
-module _ (L : Layer) (t : List ℕ) where
-  traced-accepted : firstNo (lengthQuestions L (length t)) ≡ Yes → Accepted L (tracedTable L)
-  traced-accepted yes-5 = let sound = lengths-of L (length t) yes-5 .0 in all-kept-accepted L (tracedTable L) sound (traced-kept L sound)
-
-  -- an accepted Trace leaves a layer that passes questions 1 to 7
-  pub trace-opens : traceOf L t .refusal ≡ 0 → Accepted L (traceOf L t .table)
-  unfolding traceOf
-  trace-opens done = by (firstNo (lengthQuestions L (length t))) refl done
-    where
-      by : (a : Answer) → firstNo (lengthQuestions L (length t)) ≡ a → traceOf L t .refusal ≡ 0 → Accepted L (traceOf L t .table)
-      by Yes e done = rw e (traced-accepted e)
-      by (No q place) e done = absurd (omega (arith, number-some q, rw e at done))
-
-  -- and, on such a layer, so does any Trace
-  pub trace-keeps : Accepted L t → Accepted L (traceOf L t .table)
-  unfolding traceOf
-  trace-keeps accepted = by (firstNo (lengthQuestions L (length t))) refl
-    where
-      by : (a : Answer) → firstNo (lengthQuestions L (length t)) ≡ a → Accepted L (traceOf L t .table)
-      by Yes e = rw e (traced-accepted e)
-      by (No q place) e = rw e accepted
+-- the table of a Trace that is done
+pub trace-kept : (L : Layer) (t : List ℕ) → traceOf L t .refusal ≡ 0 → Sound L × AllKept L (traceOf L t .table)
+unfolding traceOf
+trace-kept L t done = by (firstNo (lengthQuestions L (length t))) refl done
+  where
+    by : (a : Answer) → firstNo (lengthQuestions L (length t)) ≡ a → traceOf L t .refusal ≡ 0 → Sound L × AllKept L (traceOf L t .table)
+    by Yes e done = let sound = lengths-of L (length t) e .0 in (sound, rw e (traced-kept L sound))
+    by (No q place) e done = absurd (omega (arith, number-some q, rw e at done))
