@@ -20,7 +20,8 @@
  * roll       S and a stick and an offset slides a vertex, X and a stick removes one, E ends the roll: 7, 6 and 1 bytes. A stick is kind
  *            (0 from (c, r) to (c + 1, r), 1 to (c, r + 1)), c, r: 5 bytes, c and r of 16 bits, low byte first
  * sheet      L, w, h (16 bits, low byte first); for each contour C and its first stick, then K (kept) or R (removed) and the offset of
- *            each vertex; E
+ *            each vertex; E. A contour is walked with inside on its left from the stick with its lowest entry, and contours are ordered
+ *            by that entry. Letters are ASCII bytes
  *
  * The questions, in this order, and the place of a refusal. pz_counts and pz_trace put 1 to 5, pz_smooth and pz_simplify 1 to 7 and 15,
  * pz_roll 1 to 8 and for each command those of 9 to 13 that it has, pz_write_sheet and pz_plan 1 to 7 and 14, pz_read_sheet 1 to 5, 8 and
@@ -41,7 +42,7 @@
  * 11  Does each redrawn edge cross its removed sticks, the one being removed included?
  * 12  Does each such vertex slide by at most t along its stick to the redrawn edge?
  * 13  Are three kept vertices left?
- * 14  Does each output hold the whole answer, and are there four figures? (0)
+ * 14  Does each output hold the whole answer? (0). Fewer than four figures are 14 for every call, before 1, and nothing is written
  * 15  Is every vertex kept? (lowest entry of a removed one)
  *
  * Stack that a call needs at most, in units of 1024 bytes: pz_simplify 272, pz_trace and pz_sample 1, the others 132. This is measured on the
@@ -68,7 +69,7 @@ uint32_t pz_trace(uint16_t w, uint16_t h, const uint8_t *bitmap, size_t bitmap_l
 uint32_t pz_smooth(uint16_t w, uint16_t h, const uint8_t *bitmap, size_t bitmap_len, uint16_t *table, size_t table_len,
                    uint16_t limit, uint64_t *figures, size_t figures_len);
 
-/* Removes vertices within the tolerance t, in 1/256 of the pitch. figures: place, removed, runs tried */
+/* Removes the inner vertices of runs whose chord crosses every stick between and slides none by more than t, in 1/256 of the pitch. figures: place, removed, runs tried */
 uint32_t pz_simplify(uint16_t w, uint16_t h, const uint8_t *bitmap, size_t bitmap_len, uint16_t *table, size_t table_len,
                      uint8_t t, uint64_t *figures, size_t figures_len);
 

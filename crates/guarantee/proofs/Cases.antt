@@ -1,8 +1,8 @@
 -- All cases that the paper marks with a star, under one theorem, by running the calls' definitions. Points lie on segments by computing too. A
 -- chord that meets a stick at a sample does not cross it: a crossing is the only point of both, and strictly inside.
 use mathlib.Core.Path.{_≡_, refl}
-use mathlib.Core.Bool.{xor}
-use Prim.Native.Nat.{_*_, min, max}
+use mathlib.Core.Bool.{true, xor}
+use Prim.Native.Nat.{ℕ, zero, suc, _*_, min, max}
 use lib.Dec.{T}
 use lib.IntN.{pos, _-ℤ_, _*ℤ_}
 use lib.Signed.{leZ, leZ-yes}
@@ -21,13 +21,14 @@ use Rattle.table.specs.Vertices.{keptAt, removedAt, offsetAt}
 use Rattle.drawn.specs.Neighbours.{removedFrom, keptFrom}
 use Rattle.drawn.specs.Drawn.{edgeCrosses}
 use Rattle.held.specs.Held.{heldContour, heldAnswer}
+use Rattle.trace.specs.Counts.{countsOf}
 use Rattle.trace.specs.Trace.{traceOf}
 use Rattle.smooth.specs.Call.{smoothOf}
 use Rattle.simplify.specs.Runs.{passes}
 use Rattle.simplify.specs.Call.{simplifyOf}
 use Rattle.roll.specs.Edits.{edgeWithin}
 use Rattle.roll.specs.Roll.{rollOf}
-use Rattle.guarantee.specs.Cases.{Cases, single, traced, bar, barTable, stick, vertexOn, innerSample}
+use Rattle.guarantee.specs.Cases.{Cases, single, traced, offsets, blank, bar, barTable, stick, vertexOn, innerSample}
 
 -- `On`, by tests that compute on written-out points
 on : {z : Point} {p q : Position} → fromX z p *ℤ fromY z q -ℤ fromY z p *ℤ fromX z q ≡ pos 0
@@ -41,8 +42,17 @@ on cross left right low high =
       y-between = record { least = leZ-yes low; most = leZ-yes high };
     }
 
+-- the limit makes no difference where there is nothing to smooth
+blank-settled : (limit : ℕ) → smoothOf blank limit (offsets 0 0 0 0)
+    ≡ record { refusal = 0; place = 0; passes = 0; total = 0; settled = true; table = offsets 0 0 0 0 }
+unfolding countsOf traceOf tabulateFrom smoothOf simplifyOf rollOf sidesAnswer lengthAnswer spareAnswer borderAnswer tableLengthAnswer entriesAnswer allKeptAnswer heldAnswer
+    heldContour edgeCrosses edgeWithin firstsAmong ahead number edgeCount edgeAt isStick sample bit next prev xor leastFrom count keptAt
+    removedAt offsetAt removedFrom keptFrom entryOf off parted crosses slidesWithin passes
+blank-settled zero = refl
+blank-settled (suc n) = refl
+
 pub cases : Cases
-unfolding traceOf tabulateFrom smoothOf simplifyOf rollOf sidesAnswer lengthAnswer spareAnswer borderAnswer tableLengthAnswer entriesAnswer allKeptAnswer heldAnswer
+unfolding countsOf traceOf tabulateFrom smoothOf simplifyOf rollOf sidesAnswer lengthAnswer spareAnswer borderAnswer tableLengthAnswer entriesAnswer allKeptAnswer heldAnswer
     heldContour edgeCrosses edgeWithin firstsAmong ahead number edgeCount edgeAt isStick sample bit next prev xor leastFrom count keptAt
     removedAt offsetAt removedFrom keptFrom entryOf off parted crosses slidesWithin passes
 cases =
@@ -56,7 +66,7 @@ cases =
       no-further-pass = refl;
       limit-9 = refl;
       limit-0 = refl;
-      no-inside-sample = refl;
+      no-inside-sample = blank-settled;
       simplify-single = refl;
       first-chord-touches = on refl tt tt tt tt;
       first-chord-crosses-not = λ c.
@@ -76,6 +86,8 @@ cases =
       slide-is = refl;
       removal-at-12 = refl;
       removal-at-11 = refl;
+      diagonal-counts = refl;
+      other-diagonal-counts = refl;
       diagonal-contours = refl;
       other-diagonal-contours = refl;
       slide-to-0 = refl;

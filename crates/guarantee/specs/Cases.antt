@@ -1,4 +1,4 @@
--- The cases that the paper marks with a star, as one record with a field for each: they are what the calls' definitions give on these layers.
+-- The cases that the paper marks with a star, as one record with a field for each: they are what the definitions give on these layers.
 -- proofs/Cases.antt has the theorem that all of them hold.
 use mathlib.Core.Path.{_≡_}
 use mathlib.Core.Bool.{true, false}
@@ -13,6 +13,7 @@ use Rattle.grid.specs.declared.edge.Edge.{Edge}
 use Rattle.contour.specs.Contours.{contoursOf}
 use Rattle.chord.specs.Points.{Position, Point, point, On, Meets, Crosses, slide}
 use Rattle.drawn.specs.Drawn.{vertex}
+use Rattle.trace.specs.Counts.{countsOf}
 use Rattle.trace.specs.Trace.{traceOf}
 use Rattle.smooth.specs.Call.{smoothOf}
 use Rattle.simplify.specs.Runs.{passes}
@@ -33,8 +34,8 @@ traced = offsets 128 128 128 128
 abbrev pub blank : Layer
 blank = layerOf (sizeOf 3 3) (0 ∷ 0 ∷ 0 ∷ [])
 
--- W 5, H 3, inside (1,1), (2,1), (3,1): a table of it with these entries at its lower middle stick, number 14, and at those beside it, before
--- it and behind it, as traced elsewhere
+-- W 5, H 3, inside (1,1), (2,1), (3,1): a table of it with these entries at its lower middle stick, number 14, and at the four vertical sticks of
+-- the end samples (1,1) and (3,1), numbers 13, 15, 18 and 20; as traced elsewhere
 abbrev pub bar : Layer
 bar = layerOf (sizeOf 5 3) (0 ∷ 14 ∷ 0 ∷ [])
 
@@ -94,7 +95,7 @@ pub record Cases : Type 0 where
   -- "Limit 0: 0 passes, total 0, limit. No inside sample: 0 passes, settled."
   pub limit-0 : smoothOf single 0 traced
       ≡ record { refusal = 0; place = 0; passes = 0; total = 0; settled = false; table = traced }
-  pub no-inside-sample : smoothOf blank 100 (offsets 0 0 0 0)
+  pub no-inside-sample : (limit : ℕ) → smoothOf blank limit (offsets 0 0 0 0)
       ≡ record { refusal = 0; place = 0; passes = 0; total = 0; settled = true; table = offsets 0 0 0 0 }
   -- "Simplify it at T 255: 6 runs tried, none removed; the chord touches the sample."
   pub simplify-single : simplifyOf single 255 traced ≡ record { refusal = 0; place = 0; removed = 0; tried = 6; table = traced }
@@ -124,6 +125,8 @@ pub record Cases : Type 0 where
   pub removal-at-11 : rollOf bar 11 slideAndRemove (barTable 128 128)
       ≡ record { refusal = 12; place = 7; done = 1; table = barTable 140 128 }
   -- "W 4, H 4, inside (1,1), (2,2): two contours of 4. The other diagonal: two also."
+  pub diagonal-counts : countsOf diagonal 24 ≡ record { refusal = 0; place = 0; inside = 2; sticks = 8; contours = 2 }
+  pub other-diagonal-counts : countsOf otherDiagonal 24 ≡ record { refusal = 0; place = 0; inside = 2; sticks = 8; contours = 2 }
   pub diagonal-contours : map length (contoursOf diagonal) ≡ 4 ∷ 4 ∷ []
   pub other-diagonal-contours : map length (contoursOf otherDiagonal) ≡ 4 ∷ 4 ∷ []
   -- "A slide to 0: 10. To 255 on the traced single sample: done."

@@ -1,5 +1,6 @@
 // The guarantee over every list of calls, and the paper's cases: theorems, in specs/ and proofs/. The functions here make each call that the
-// guarantee speaks of, and promise that it leaves the table that the theorem's definitions name: so the theorem is about this code.
+// guarantee speaks of, and promise that it leaves the table that the theorem's definitions name: so the theorem is about this code. The exported functions
+// have it too (puzhenim, proofs/Exported).
 mod calls;
 mod openings;
 

@@ -1,2 +1,3 @@
--- Laws of the exported face.
+-- Laws of the exported face (Faces), and the guarantee over the exported functions (Exported).
 pub mod Faces
+pub mod Exported

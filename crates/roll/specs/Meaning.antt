@@ -1,5 +1,5 @@
--- Edits said over points: what questions 11 and 12 ask of a redrawn edge, and when an edit is accepted. The tests and answers of Edits.antt,
--- which compute, are this (proofs/Meaning.antt).
+-- Edits said over points: what questions 11 and 12 ask of a redrawn edge, and when an edit is accepted. The tests and the answer yes of
+-- Edits.antt, which compute, are this (proofs/Meaning.antt).
 use mathlib.Core.Path.{_≡_}
 use mathlib.Core.Bool.{true}
 use mathlib.Core.List.{List}

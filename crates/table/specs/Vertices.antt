@@ -1,4 +1,4 @@
--- Vertices: what the table says of a stick, and the kept vertices before and after it on its contour.
+-- Vertices: what an entry says of its vertex, and what the table says of an edge.
 use mathlib.Core.Bool.{Bool, true, false}
 use mathlib.Core.List.{List}
 use Prim.Native.Nat.{ℕ}
