@@ -45,17 +45,13 @@ module _ (L : Layer) (t : List ℕ) where
   unfolding occurrences
   start-counts y [] = omega arith
   start-counts y (x ∷ l) =
-      let later = start-counts y l in
+      let here : asNumber (keptAt L t y) * asNumber (sameEdge y x) ≡ asNumber (keptAt L t x) * asNumber (sameEdge y x) =
       both-sides (sameEdge y x)
-      (λ s.
-      let e = ap (keptAt L t) (same-edge y x s) in
+      (λ s. ap (λ (z : Edge). asNumber (keptAt L t z) * asNumber (sameEdge y x)) (same-edge y x s))
+      (λ s. rw s (omega arith)) in
       both-sides (keptAt L t x)
-      (λ k. rw (k, e ∙ k, s) (omega (arith, rw (e ∙ k) at later)))
-      (λ k. rw (k, e ∙ k) (omega (arith, rw (e ∙ k) at later))))
-      (λ s.
-      both-sides (keptAt L t x)
-      (λ k. rw (k, s) (omega (arith, later)))
-      (λ k. rw (k, s) (omega (arith, later))))
+      (λ k. rw k (omega (arith, start-counts y l, rw k at here)))
+      (λ k. rw k (omega (arith, start-counts y l, rw k at here)))
 
   -- and there are as many as kept ones.
   pub drawn-length : (l : List Edge) → length (drawnAmong L t l) ≡ among (keptAt L t) l
