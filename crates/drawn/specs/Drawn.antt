@@ -1,14 +1,14 @@
 -- Vertices and drawn edges: where a vertex lies, which drawn edges there are, and the points on them.
 use mathlib.Core.Path.{_≡_}
 use mathlib.Core.Bool.{Bool, true, _||_}
-use mathlib.Core.List.{List, [], _∷_}
+use mathlib.Core.List.{List, [], _∷_, map, flatten}
 use Prim.Native.Nat.{ℕ, _<_}
 use Rattle.arith.specs.Lists.{each}
 use Rattle.grid.specs.Layer.{Layer}
 use Rattle.grid.specs.Edges.{isStick}
 use Rattle.grid.specs.declared.edge.Edge.{Edge}
 use Rattle.contour.specs.Walk.{occurrences, consIf}
-use Rattle.contour.specs.Contours.{walkOf}
+use Rattle.contour.specs.Contours.{walkOf, contourOf, firstSticks}
 use Rattle.chord.specs.Points.{Position, position, Point, On}
 use Rattle.chord.specs.Crossing.{crosses}
 use Rattle.table.specs.Vertices.{keptAt, removedAt, offsetAt}
@@ -37,14 +37,37 @@ Between L t p u = 0 < occurrences (walkOf L) u (gapAfter L t p)
 abbrev pub OnDrawn : Layer → List ℕ → Edge → Point → Type 0
 OnDrawn L t p z = On z (vertex L t p) (vertex L t (nextKept L t p))
 
--- the drawn edges of the kept ones among some sticks, in their order: from which stick to which
+-- A drawn edge by its ends: from which stick to which. The one that starts at the kept vertex of e
 pub record Ends : Type 0 where
   pub from : Edge
   pub to : Edge
 
+abbrev pub drawnFrom : Layer → List ℕ → Edge → Ends
+drawnFrom L t e = record { from = e; to = nextKept L t e }
+
+-- the drawn edges of the kept ones among some sticks, in their order, and those of the contour that starts at f, in walk order
 abbrev pub drawnAmong : Layer → List ℕ → List Edge → List Ends
 drawnAmong L t [] = []
-drawnAmong L t (p ∷ l) = consIf (keptAt L t p) (record { from = p; to = nextKept L t p }) (drawnAmong L t l)
+drawnAmong L t (e ∷ l) = consIf (keptAt L t e) (drawnFrom L t e) (drawnAmong L t l)
+
+abbrev pub drawnOf : Layer → List ℕ → Edge → List Ends
+drawnOf L t f = drawnAmong L t (contourOf L f)
+
+-- those of the contours with these first sticks, one contour after the other, and those of all contours, in contour order
+abbrev pub drawnAlong : Layer → List ℕ → List Edge → List Ends
+drawnAlong L t order = flatten (map (drawnOf L t) order)
+
+abbrev pub drawnEdges : Layer → List ℕ → List Ends
+drawnEdges L t = drawnAlong L t (firstSticks L)
+
+-- the sticks where they start
+abbrev pub starts : List Ends → List Edge
+starts l = map (λ d. d .from) l
+
+-- edges that lead from a to b, each beginning where the one before ended
+abbrev pub Leads : Edge → List Ends → Edge → Type 0
+Leads a [] b = a ≡ b
+Leads a (d ∷ l) b = (d .from ≡ a) × Leads (d .to) l b
 
 -- the drawn edge that starts at the kept vertex of e crosses every removed stick between its ends
 unfoldable pub edgeCrosses : Layer → List ℕ → Edge → Bool

@@ -4,7 +4,7 @@
 use mathlib.Core.Path.{_≡_}
 use mathlib.Core.Logic.{_⊎_, _≢_}
 use mathlib.Core.Bool.{true, false}
-use mathlib.Core.List.{List, [], _∷_}
+use mathlib.Core.List.{List}
 use Prim.Native.Nat.{ℕ, _≤_}
 use lib.ListN.{length}
 use Rattle.arith.specs.Lists.{among}
@@ -17,12 +17,7 @@ use Rattle.chord.specs.Points.{start, end, Point, point, Same, On}
 use Rattle.table.specs.Vertices.{entryAt, keptAt}
 use Rattle.table.specs.declared.entry.Entry.the-variants.{Nothing}
 use Rattle.drawn.specs.Neighbours.{nextKept}
-use Rattle.drawn.specs.Drawn.{vertex, VertexInside, Drawn, OnDrawn, Ends, drawnAmong}
-
--- edges that lead from a to b, each beginning where the one before ended
-abbrev pub Leads : Edge → List Ends → Edge → Type 0
-Leads a [] b = a ≡ b
-Leads a (d ∷ l) b = (d .from ≡ a) × Leads (d .to) l b
+use Rattle.drawn.specs.Drawn.{vertex, VertexInside, Drawn, OnDrawn, drawnOf, Leads}
 
 -- "A contour is closed if it has three kept vertices or more, its walk comes back to its first stick with no other met twice, and its
 -- drawn edges, each beginning where the one before ended, come back to where the first began."
@@ -30,7 +25,7 @@ pub record ContourClosed (L : Layer) (t : List ℕ) (f : Edge) : Type 0 where
   pub three : 3 ≤ among (keptAt L t) (contourOf L f)
   pub returns : Round (walkOf L) f (length (contourOf L f))
   pub begin : Edge
-  pub comes-back : Leads begin (drawnAmong L t (contourOf L f)) begin
+  pub comes-back : Leads begin (drawnOf L t f) begin
 
 -- e lies on exactly one contour, once: it stands once in the contour of `start-stick`, and not in that of any other first stick
 pub record OnOneContour (L : Layer) (e : Edge) : Type 0 where

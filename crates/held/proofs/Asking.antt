@@ -1,6 +1,6 @@
 -- What the code of question 7 rests on: a drawn edge against the sticks of its gap, one contour walked once, and all contours in order.
 use mathlib.Core.Path.{_≡_, refl, sym, _∙_, ap}
-use mathlib.Core.Bool.{Bool, true, false, not, _&&_, _||_}
+use mathlib.Core.Bool.{Bool, true, false, _&&_}
 use mathlib.Core.List.{List, [], _∷_}
 use Prim.Native.Nat.{ℕ, _+_, _≤_, _<_}
 use native.Mathlib.Omega.{arith}
@@ -24,38 +24,40 @@ use Rattle.contour.proofs.Orbit.{round}
 use Rattle.contour.proofs.Loop.{Due, start, due-one, due-next, rest-more, rest-last}
 use Rattle.contour.proofs.Sticks.{laws}
 use Rattle.contour.proofs.FirstSets.{Stop, stop-below, firsts-start, firsts-turn, firsts-end}
-use Rattle.chord.specs.Crossing.{crosses}
 use Rattle.table.specs.Entries.{lengthQuestions, entriesAnswer}
 use Rattle.table.specs.Kept.{allKeptAnswer}
 use Rattle.table.specs.Vertices.{keptAt}
 use Rattle.table.proofs.Lengths.{lengths-of}
-use Rattle.drawn.specs.Drawn.{edgeCrosses}
+use Rattle.drawn.specs.Drawn.{drawnAmong, starts, edgeCrosses}
 use Rattle.held.specs.Held.{heldContour, heldAnswer, firstUnheld}
 use Rattle.held.specs.Questions.{entryQuestions, heldQuestions, keptQuestions, Accepted}
 
--- the column and the row of an edge of the grid are below 1,024
 -- One contour
 
 among-most : {A : Type 0} (f : A → Bool) (l : List A) → among f l ≤ length l
 among-most f [] = omega arith
 among-most f (x ∷ l) = omega (arith, one-le (f x), among-most f l)
 
--- the vertex of e is not kept, or the drawn edge that starts there crosses what it must
-abbrev pub draws : Layer → List ℕ → Edge → Bool
-draws L t e = not (keptAt L t e) || edgeCrosses L t e
+-- whether the drawn edges of these sticks cross what they must
+abbrev pub allCross : Layer → List ℕ → List Edge → Bool
+allCross L t l = each (edgeCrosses L t) (starts (drawnAmong L t l))
 
-pub draws-kept : (L : Layer) (t : List ℕ) (e : Edge) {b : Bool} → keptAt L t e ≡ true → edgeCrosses L t e ≡ b → draws L t e ≡ b
-draws-kept L t e k x = rw k x
+-- x does not change that: its vertex is not kept, or the drawn edge that starts there crosses what it must
+abbrev pub Cleared : Layer → List ℕ → Edge → Type 0
+Cleared L t x = (l : List Edge) → allCross L t (x ∷ l) ≡ allCross L t l
 
-pub draws-none : (L : Layer) (t : List ℕ) (e : Edge) → keptAt L t e ≡ false → draws L t e ≡ true
-draws-none L t e k = rw k
+pub cleared-kept : (L : Layer) (t : List ℕ) (x : Edge) → keptAt L t x ≡ true → edgeCrosses L t x ≡ true → Cleared L t x
+cleared-kept L t x k y l = rw (k, y)
+
+pub cleared-none : (L : Layer) (t : List ℕ) (x : Edge) → keptAt L t x ≡ false → Cleared L t x
+cleared-none L t x k l = rw k
 
 -- a walk round the contour of f that stands at x: the kept vertices so far and those still to come are all of them, and what is still to be
 -- asked decides whether all edges cross
 pub record Counted (L : Layer) (t : List ℕ) (f x : Edge) (kept : ℕ) : Type 0 where
   pub due : Due (walkOf L) f x
   pub in-all : kept + among (keptAt L t) (rest (walkOf L) x f) ≡ among (keptAt L t) (contourOf L f)
-  pub still : each (draws L t) (rest (walkOf L) x f) ≡ each (draws L t) (contourOf L f)
+  pub still : allCross L t (rest (walkOf L) x f) ≡ allCross L t (contourOf L f)
 
 and-false : (a : Bool) → false ≡ (a && false)
 and-false true = refl
@@ -84,15 +86,15 @@ module _ (L : Layer) (sound : Sound L) (t : List ℕ) (f : Edge) where
         )
 
     -- an edge that does not cross
-    pub counted-no : draws L t x ≡ false → false ≡ heldContour L t f
+    pub counted-no : keptAt L t x ≡ true → edgeCrosses L t x ≡ false → false ≡ heldContour L t f
     unfolding heldContour rest
-    counted-no bad =
-        let none : each (draws L t) (rest (walkOf L) x f) ≡ false = rw bad in
-        let all : each (draws L t) (contourOf L f) ≡ false = sym (c .still) ∙ none in
+    counted-no k bad =
+        let none : allCross L t (rest (walkOf L) x f) ≡ false = rw (k, bad) in
+        let all : allCross L t (contourOf L f) ≡ false = sym (c .still) ∙ none in
         and-false (leb 3 (among (keptAt L t) (contourOf L f)))
         ∙ ap (λ (b : Bool). leb 3 (among (keptAt L t) (contourOf L f)) && b) (sym all)
 
-    module _ (x′ : Edge) (kept′ : ℕ) (step : x′ ≡ next L x) (yes : draws L t x ≡ true) (more : kept′ ≡ kept + asNumber (keptAt L t x)) where
+    module _ (x′ : Edge) (kept′ : ℕ) (step : x′ ≡ next L x) (yes : Cleared L t x) (more : kept′ ≡ kept + asNumber (keptAt L t x)) where
       -- the walk goes on
       pub counted-turn : sameEdge x′ f ≡ false → Counted L t f x′ kept′
       counted-turn s =
@@ -100,7 +102,7 @@ module _ (L : Layer) (sound : Sound L) (t : List ℕ) (f : Edge) where
           record {
             due = due-next (walkOf L) (laws L sound) f x x′ (c .due) step;
             in-all = omega (arith, more, c .in-all, ap (among (keptAt L t)) left);
-            still = ap (λ (b : Bool). b && each (draws L t) (rest (walkOf L) x′ f)) (sym yes) ∙ sym (ap (each (draws L t)) left) ∙ c .still;
+            still = sym (yes (rest (walkOf L) x′ f)) ∙ sym (ap (allCross L t) left) ∙ c .still;
           }
 
       -- it is back
@@ -109,8 +111,7 @@ module _ (L : Layer) (sound : Sound L) (t : List ℕ) (f : Edge) where
       counted-last s =
           let left = rest-last (walkOf L) (laws L sound) f x x′ (c .due) step s in
           let all : kept′ ≡ among (keptAt L t) (contourOf L f) = omega (arith, more, c .in-all, ap (among (keptAt L t)) left) in
-          let held : each (draws L t) (contourOf L f) ≡ true =
-          sym (c .still) ∙ ap (each (draws L t)) left ∙ ap (λ (b : Bool). b && true) yes in
+          let held : allCross L t (contourOf L f) ≡ true = sym (c .still) ∙ ap (allCross L t) left ∙ yes [] in
           ap (leb 3) all ∙ and-true (leb 3 (among (keptAt L t) (contourOf L f)))
           ∙ ap (λ (b : Bool). leb 3 (among (keptAt L t) (contourOf L f)) && b) (sym held)
 

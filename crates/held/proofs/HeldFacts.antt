@@ -1,7 +1,7 @@
 -- What a yes to question 7 says: each drawn edge crosses the removed sticks between its ends, each contour has three kept vertices or more, and
 -- so the walk from each stick reaches a kept vertex.
 use mathlib.Core.Path.{_≡_, ap}
-use mathlib.Core.Bool.{Bool, true, false, not, _||_}
+use mathlib.Core.Bool.{Bool, true}
 use mathlib.Core.List.{List, [], _∷_}
 use Prim.Native.Nat.{ℕ, _≤_, _<_}
 use native.Mathlib.Omega.{arith}
@@ -23,7 +23,8 @@ use Rattle.contour.proofs.First.{first-one}
 use Rattle.contour.proofs.Sticks.{laws, same-edge, same-self}
 use Rattle.contour.proofs.Theorems.{on-one-contour, first-sticks-all}
 use Rattle.table.specs.Vertices.{keptAt}
-use Rattle.drawn.specs.Drawn.{edgeCrosses, Drawn}
+use Rattle.drawn.specs.Drawn.{edgeCrosses, Drawn, drawnOf, starts}
+use Rattle.drawn.proofs.DrawnEdges.{starts-once}
 use Rattle.held.specs.Held.{heldContour, firstUnheld, heldAnswer}
 
 -- what a held layer has
@@ -34,10 +35,6 @@ pub record HeldFacts (L : Layer) (t : List ℕ) : Type 0 where
   pub three : (f : Edge) → first (walkOf L) f ≡ true → 3 ≤ among (keptAt L t) (contourOf L f)
   -- each stick has a kept vertex on its contour
   pub some-kept : (e : Edge) → isStick L e ≡ true → (x : Edge) × On (walkOf L) e x × (keptAt L t x ≡ true)
-
-implied-by : (a b : Bool) → (not a || b) ≡ true → a ≡ true → b ≡ true
-implied-by true b h e = h
-implied-by false b h e = absurd (omega (arith, ap asNumber e))
 
 module _ (L : Layer) where
   -- a test of each element of a list holds of one that occurs in it
@@ -71,16 +68,18 @@ module _ (L : Layer) where
     held-of yes-7 =
         record {
           three = λ f h. leb-true 3 (among (keptAt L t) (contourOf L f)) (halves f h .0);
-          crossed = λ p d. let c = on-one-contour L sound p (d .stick) in
-              implied-by (keptAt L t p) (edgeCrosses L t p)
-              (each-at (λ e. not (keptAt L t e) || edgeCrosses L t e) (contourOf L (c .0)) (halves (c .0) (c .1) .1) p (omega (arith, c .2))) (d .kept);
+          crossed = λ p d.
+              let c = on-one-contour L sound p (d .stick) in
+              let one = first-one (walkOf L) (laws L sound) (c .0) (c .1) in
+              each-at (edgeCrosses L t) (starts (drawnOf L t (c .0))) (halves (c .0) (c .1) .1) p
+              (omega (arith, starts-once L t sound (c .0) one p d (omega (arith, c .2))));
           some-kept = λ e stick. let c = on-one-contour L sound e stick in kept-on e stick (c .0) (c .1) (omega (arith, c .2));
         }
       where
         halves : (f : Edge) → first (walkOf L) f ≡ true
-            → (leb 3 (among (keptAt L t) (contourOf L f)) ≡ true) × (each (λ e. not (keptAt L t e) || edgeCrosses L t e) (contourOf L f) ≡ true)
+            → (leb 3 (among (keptAt L t) (contourOf L f)) ≡ true) × (each (edgeCrosses L t) (starts (drawnOf L t f)) ≡ true)
         halves f h =
-            and-split (leb 3 (among (keptAt L t) (contourOf L f))) (each (λ e. not (keptAt L t e) || edgeCrosses L t e) (contourOf L f))
+            and-split (leb 3 (among (keptAt L t) (contourOf L f))) (each (edgeCrosses L t) (starts (drawnOf L t f)))
             (held-at t (firstSticks L) yes-7 f (first-sticks-all L sound f h))
 
         kept-on : (e : Edge) → isStick L e ≡ true → (f : Edge) → first (walkOf L) f ≡ true → On (walkOf L) f e

@@ -1,13 +1,13 @@
 -- When question 7 is answered yes: if each drawn edge crosses every removed stick between its ends, and each contour has a kept vertex. That
 -- each contour has three follows (FourKept). So a table that removes nothing is held, and passes every question before 7 too.
 use mathlib.Core.Path.{_≡_, refl, ap}
-use mathlib.Core.Bool.{Bool, true, false, not, _||_, or-true}
+use mathlib.Core.Bool.{Bool, true, false}
 use mathlib.Core.List.{List, [], _∷_}
 use Prim.Native.Nat.{ℕ, _<_}
 use native.Mathlib.Omega.{arith}
 use borrow.Author.Tests.{le-leb}
 use lib.ListN.{length}
-use Rattle.arith.specs.Booleans.{asNumber, both-sides}
+use Rattle.arith.specs.Booleans.{asNumber}
 use Rattle.arith.specs.Lists.{each, among}
 use Rattle.grid.specs.Layer.{Layer}
 use Rattle.grid.specs.Edges.{isStick, edgeCount}
@@ -17,15 +17,16 @@ use Rattle.grid.specs.declared.question.Answer.the-variants.{Yes}
 use Rattle.contour.specs.Walk.{first, occurrences, On}
 use Rattle.contour.specs.Contours.{walkOf, contourOf, firstSticks}
 use Rattle.contour.proofs.First.{first-one}
-use Rattle.contour.proofs.Members.{on-one, on-self}
+use Rattle.contour.proofs.Members.{on-self}
 use Rattle.contour.proofs.Sticks.{laws, same-self}
 use Rattle.contour.proofs.Theorems.{first-sticks-only}
 use Rattle.table.specs.Entries.{entriesAnswer}
 use Rattle.table.specs.Kept.{allKeptAnswer}
 use Rattle.table.specs.Vertices.{keptAt, removedAt}
 use Rattle.table.proofs.AllKept.{AllKept, all-kept-of, not-removed, passes-entries}
-use Rattle.drawn.specs.Drawn.{edgeCrosses, Drawn}
+use Rattle.drawn.specs.Drawn.{edgeCrosses, Drawn, drawnOf, starts}
 use Rattle.drawn.proofs.Vertices.{Vertices, vertices-of, kept-of}
+use Rattle.drawn.proofs.DrawnEdges.{starts-only}
 use Rattle.drawn.proofs.FourKept.{four-kept, nothing-crossed}
 use Rattle.held.specs.Held.{heldContour, firstUnheld, heldAnswer}
 use Rattle.held.specs.Questions.{Accepted}
@@ -51,9 +52,7 @@ module _ (L : Layer) (t : List ℕ) (sound : Sound L) (vertices : Vertices L t) 
   unfolding heldContour
   contour-held f stick x on kept over =
       let four = four-kept L t sound vertices f stick x on kept over in
-      let all = each-all L (λ e. not (keptAt L t e) || edgeCrosses L t e) (contourOf L f) (λ p o. both-sides (keptAt L t p)
-      (λ k. rw (over p o (record { stick = on-one (walkOf L) (laws L sound) f p stick o; kept = k }), or-true))
-      (λ n. rw n)) in
+      let all = each-all L (edgeCrosses L t) (starts (drawnOf L t f)) (λ p o. let s = starts-only L t sound f stick p o in over p (s .1) (s .0)) in
       rw (le-leb 3 (among (keptAt L t) (contourOf L f)) (omega (arith, four)), all)
 
   pub layer-held : ((p : Edge) → Drawn L t p → edgeCrosses L t p ≡ true)

@@ -1,5 +1,5 @@
 -- "A layer is held if each contour has three kept vertices or more and each drawn edge crosses every removed stick between its ends."
-use mathlib.Core.Bool.{Bool, true, cond, not, _&&_, _||_}
+use mathlib.Core.Bool.{Bool, true, cond, _&&_}
 use mathlib.Core.List.{List, [], _∷_}
 use Prim.Native.Nat.{ℕ, _≤_}
 use lib.Dec.{leb}
@@ -17,13 +17,13 @@ use Rattle.chord.specs.Points.{Crosses}
 use Rattle.chord.specs.Crossing.{crosses}
 use Rattle.table.specs.Vertices.{keptAt}
 use Rattle.drawn.specs.Neighbours.{nextKept}
-use Rattle.drawn.specs.Drawn.{vertex, Drawn, Between, edgeCrosses}
+use Rattle.drawn.specs.Drawn.{vertex, Drawn, Between, drawnOf, starts, edgeCrosses}
 
 -- the contour that starts at f is held
 unfoldable pub heldContour : Layer → List ℕ → Edge → Bool
 heldContour L t f =
     leb 3 (among (keptAt L t) (contourOf L f))
-    && each (λ e. not (keptAt L t e) || edgeCrosses L t e) (contourOf L f)
+    && each (edgeCrosses L t) (starts (drawnOf L t f))
 
 -- "7. Is the layer held? (first stick of the first contour that is not)"
 abbrev pub firstUnheld : Layer → List ℕ → List Edge → Answer

@@ -13,11 +13,16 @@ use Rattle.contour.specs.Contours.{walkOf, sameEdge}
 use Rattle.contour.proofs.Loop.{Due, start, due-one, due-next, rest-more, rest-last}
 use Rattle.contour.proofs.Sticks.{laws}
 use Rattle.table.specs.Vertices.{keptAt}
-use Rattle.drawn.specs.Drawn.{vertex}
-use Rattle.planner.specs.Items.{pointAt, itemTo, itemsAmong, contourItems}
+use Rattle.drawn.specs.Drawn.{vertex, drawnAmong}
+use Rattle.planner.specs.Items.{pointAt, itemTo, itemsTo, contourItems}
 use Rattle.planner.specs.Writing.{Buffers, writeItem, Room}
+use Rattle.planner.specs.declared.item.Item.{Item}
 use Rattle.planner.specs.declared.item.Item.the-variants.{Close}
 use Rattle.planner.proofs.Writing.{room-first, room-next}
+
+-- the items for the kept vertices of a list of sticks, by whether the move is still due
+abbrev pub itemsAmong : Layer → List ℕ → Bool → List Edge → List Item
+itemsAmong L t due l = itemsTo L t due (drawnAmong L t l)
 
 -- The work on one stick, from b to b′, does the first item of what is left, if its vertex is kept, and else nothing.
 pub record Went (L : Layer) (t : List ℕ) (x : Edge) (due : Bool) (b : Buffers) (due′ : Bool) (b′ : Buffers) : Type 0 where

@@ -20,7 +20,7 @@ use Rattle.chord.specs.Runs.{crossesRun, Near}
 use Rattle.table.specs.Entries.{entryOf}
 use Rattle.table.specs.Vertices.{isKept, offsetAt}
 use Rattle.drawn.specs.Neighbours.{gapAfter, nextKept, previousKept}
-use Rattle.drawn.specs.Drawn.{vertex}
+use Rattle.drawn.specs.Drawn.{vertex, Ends, drawnFrom}
 use Rattle.roll.specs.Commands.{Named, askAt}
 use Rattle.roll.specs.Edits.{edgeNamed, slid, without}
 use Rattle.roll.specs.declared.redraw.Chord.{Chord}
@@ -33,7 +33,9 @@ withinRun L t tolerance p q e (suc n) =
 
 -- the drawn edge that starts at the kept vertex of e: its ends, and how many removed sticks it passes after e
 abbrev pub chordOf : Layer → List ℕ → Edge → Chord
-chordOf L t e = record { from = vertex L t e; to = vertex L t (nextKept L t e); stick = e; gap = length (gapAfter L t e) }
+chordOf L t e =
+    let d : Ends = drawnFrom L t e in
+    record { from = vertex L t (d .from); to = vertex L t (d .to); stick = d .from; gap = length (gapAfter L t (d .from)) }
 
 -- the edges that an edit redraws, as they are after it: the two at the vertex of e once it is slid, and the one that joins its neighbours
 -- once it is removed

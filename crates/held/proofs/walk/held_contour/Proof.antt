@@ -15,7 +15,7 @@ use Rattle.contour.specs.Contours.{walkOf}
 use Rattle.table.specs.Vertices.{isKept, keptAt}
 use Rattle.contour.proofs.Loop.{shorter}
 use Rattle.contour.proofs.Sticks.{laws, stick-in}
-use Rattle.held.proofs.Asking.{draws, draws-kept, draws-none, Counted, counted-start, counted-stick, counted-most, counted-no, counted-turn, counted-last}
+use Rattle.held.proofs.Asking.{Cleared, cleared-kept, cleared-none, Counted, counted-start, counted-stick, counted-most, counted-no, counted-turn, counted-last}
 use Rattle.held.proofs.walk.held_contour.Statement.{statement}
 use Rattle.held.proofs.walk.held_contour.Tie as tie
 
@@ -70,7 +70,7 @@ returns c =
     let loop = c .before .before .before .before .before .loop in
     let kept = kept-is (c .before .before .before) ∙ c .before .before .if1 .taken in
     let missed = sym (c .before .held-at .ensures) ∙ not-true _ (c .if2 .taken) in
-    counted-no L (given .0) t (a .first) (loop .e) (loop .kept) (loop .inv) (draws-kept L t (loop .e) kept missed)
+    counted-no L (given .0) t (a .first) (loop .e) (loop .kept) (loop .inv) kept missed
 
 add-kept : tie.Need-add-kept Inv-loop μ-loop
 add-kept c =
@@ -86,7 +86,7 @@ went : (c : tie.Joined1 Inv-loop μ-loop)
     → let a = c .before .before .before .before .before .before .args in
     let L = layerOf (a .size) (a .bitmap .now) in
     let loop = c .before .before .before .loop in
-    (draws L (a .table .now) (loop .e) ≡ true) × (c .if1 .kept ≡ loop .kept + asNumber (keptAt L (a .table .now) (loop .e)))
+    Cleared L (a .table .now) (loop .e) × (c .if1 .kept ≡ loop .kept + asNumber (keptAt L (a .table .now) (loop .e)))
 went c =
     let a = c .before .before .before .before .before .before .args in
     let L = layerOf (a .size) (a .bitmap .now) in
@@ -97,10 +97,10 @@ went c =
       | inl w ↦
           let yes = kept ∙ w .0 .taken in
           let crossed = sym (w .1 .ensures) ∙ not-false _ (w .2 .left) in
-          (draws-kept L t (loop .e) yes crossed, omega (arith, w .3, ap asNumber yes))
+          (cleared-kept L t (loop .e) yes crossed, omega (arith, w .3, ap asNumber yes))
       | inr w ↦
           let none = kept ∙ w .0 .left in
-          (draws-none L t (loop .e) none, omega (arith, w .1, ap asNumber none))
+          (cleared-none L t (loop .e) none, omega (arith, w .1, ap asNumber none))
     ]
 
 next-stick-requires : tie.Need-next-stick-requires Inv-loop μ-loop

@@ -16,7 +16,7 @@ use Rattle.contour.specs.Contours.{walkOf}
 use Rattle.contour.proofs.Loop.{shorter}
 use Rattle.contour.proofs.Sticks.{laws}
 use Rattle.table.specs.Vertices.{keptAt}
-use Rattle.held.proofs.Asking.{draws, draws-kept, draws-none, Counted, counted-start, counted-stick, counted-most, counted-no, counted-turn, counted-last}
+use Rattle.held.proofs.Asking.{Cleared, cleared-kept, cleared-none, Counted, counted-start, counted-stick, counted-most, counted-no, counted-turn, counted-last}
 use Rattle.sheet.specs.Reading.{described}
 use Rattle.sheet.specs.Places.{Standing}
 use Rattle.sheet.proofs.ReadStands.{standing-start, standing-more, standing-last, kept-is}
@@ -76,7 +76,7 @@ returns c =
     let loop = c .before .before .before .before .loop in
     let kept = kept-here (c .before .before .before) ∙ eq-eqb _ _ (c .before .before .if1 .taken) in
     let missed = sym (c .before .held-edge .ensures) ∙ not-true _ (c .if2 .taken) in (
-      counted-no L (given .0) t (a .first) (loop .e) (loop .kept) (loop .inv .0) (draws-kept L t (loop .e) kept missed),
+      counted-no L (given .0) t (a .first) (loop .e) (loop .kept) (loop .inv .0) kept missed,
       λ y. absurd (false≢true y),
     )
 
@@ -94,7 +94,7 @@ went : (c : tie.Joined1 Inv-loop μ-loop)
     let L = layerOf (a .size) (a .bitmap .now) in
     let t = described L (a .sheet .now) in
     let loop = c .before .before .loop in
-    (draws L t (loop .e) ≡ true) × (c .if1 .kept ≡ loop .kept + asNumber (keptAt L t (loop .e)))
+    Cleared L t (loop .e) × (c .if1 .kept ≡ loop .kept + asNumber (keptAt L t (loop .e)))
 went c =
     let a = c .before .before .before .before .before .args in
     let L = layerOf (a .size) (a .bitmap .now) in
@@ -104,10 +104,10 @@ went c =
       | inl w ↦
           let yes = kept-here (c .before) ∙ eq-eqb _ _ (w .0 .taken) in
           let crossed = sym (w .1 .ensures) ∙ not-false _ (w .2 .left) in
-          (draws-kept L t (loop .e) yes crossed, omega (arith, w .3, ap asNumber yes))
+          (cleared-kept L t (loop .e) yes crossed, omega (arith, w .3, ap asNumber yes))
       | inr w ↦
           let none = kept-here (c .before) ∙ ne-eqb _ _ (w .0 .left) in
-          (draws-none L t (loop .e) none, omega (arith, w .1, ap asNumber none))
+          (cleared-none L t (loop .e) none, omega (arith, w .1, ap asNumber none))
     ]
 
 next-stick-requires : tie.Need-next-stick-requires Inv-loop μ-loop
