@@ -1,23 +1,15 @@
 -- A walk from a stick over removed ones: where it stops, and that more fuel changes nothing if it stops at a stick that is not removed.
 use mathlib.Core.Path.{_≡_, refl, sym, _∙_, ap}
-use mathlib.Core.Bool.{true, false, true≢false, false≢true}
+use mathlib.Core.Bool.{true, false, true≢false}
 use mathlib.Core.List.{List, [], _∷_}
 use Prim.Native.Nat.{ℕ, zero, suc, _≤_}
 use native.Mathlib.Omega.{arith}
 use Rattle.arith.specs.Booleans.{both-sides}
 use Rattle.grid.specs.Layer.{Layer}
 use Rattle.grid.specs.declared.edge.Edge.{Edge}
-use Rattle.table.specs.Vertices.{isKept, isRemoved, keptAt, removedAt, entryAt}
-use Rattle.table.specs.declared.entry.Entry.{Entry}
-use Rattle.table.specs.declared.entry.Entry.the-variants.{Nothing, Kept, Removed, Wrong}
+use Rattle.table.specs.Vertices.{keptAt, removedAt, entryAt}
+use Rattle.table.proofs.Entries.{exclusive}
 use Rattle.drawn.specs.Neighbours.{removedFrom, keptFrom}
-
--- no entry is both kept and removed
-exclusive : (x : Entry) → isKept x ≡ true → isRemoved x ≡ false
-exclusive Nothing e = refl
-exclusive (Kept offset) e = refl
-exclusive (Removed offset) e = absurd (false≢true e)
-exclusive Wrong e = refl
 
 pub kept-not-removed : (L : Layer) (t : List ℕ) (e : Edge) → keptAt L t e ≡ true → removedAt L t e ≡ false
 unfolding keptAt removedAt

@@ -1,13 +1,12 @@
 -- What a yes to question 6 says of each edge, stick or not, and that going on from a kept vertex ends at a kept vertex.
 use mathlib.Core.Path.{_≡_, refl, ap, sym, _∙_}
-use mathlib.Core.Bool.{Bool, true, false, false≢true, cond, not, _&&_, _||_}
+use mathlib.Core.Bool.{Bool, true, false, false≢true, _||_}
 use mathlib.Core.List.{List, [], _∷_}
-use Prim.Native.Nat.{ℕ, zero, suc, _-_, _≤_, _<_}
+use Prim.Native.Nat.{ℕ, zero, suc, _≤_, _<_}
 use native.Mathlib.Omega.{arith}
-use borrow.Author.Tests.{eqb-false, leb-true, not-false}
-use lib.Dec.{eqb, leb}
+use borrow.Author.Tests.{not-false}
 use lib.ListN.{length, getD}
-use Rattle.arith.specs.Booleans.{both-sides, and-split}
+use Rattle.arith.specs.Booleans.{both-sides}
 use Rattle.grid.specs.Layer.{Layer}
 use Rattle.grid.specs.Edges.{isStick, inGrid, number, edgeCount}
 use Rattle.grid.specs.Questions.{Sound}
@@ -23,48 +22,17 @@ use Rattle.contour.specs.Contours.{walkOf, contourOf}
 use Rattle.contour.proofs.Orbit.{round}
 use Rattle.contour.proofs.Members.{place}
 use Rattle.contour.proofs.Sticks.{laws, stick-in}
-use Rattle.table.specs.Entries.{entryOf, suits, wrongAt, entriesAnswer}
-use Rattle.table.specs.Vertices.{isKept, isRemoved, offsetIn, entryAt, keptAt, removedAt, offsetAt}
-use Rattle.table.specs.declared.entry.Entry.{Entry}
-use Rattle.table.specs.declared.entry.Entry.the-variants.{Nothing, Kept, Removed, Wrong}
+use Rattle.table.specs.Entries.{suits, wrongAt, entriesAnswer}
+use Rattle.table.specs.Vertices.{entryAt, keptAt, removedAt, offsetAt}
+use Rattle.table.specs.declared.entry.Entry.the-variants.{Nothing}
+use Rattle.table.proofs.Entries.{offset-inside, suits-vertex, suits-other}
 use Rattle.drawn.specs.Neighbours.{keptFrom, gapAfter, nextKept}
 use Rattle.drawn.proofs.Gaps.{kept-not-removed, stepped, kept-over, kept-here, gap-over, gap-here, kept-fuel, gap-fuel, stops}
 use Rattle.drawn.specs.Drawn.{Drawn, VertexInside}
 
--- an entry that suits a stick: a vertex, kept or removed, with an offset of 1 to 255
-record Suits (x : Entry) : Type 0 where
-  either : (isKept x || isRemoved x) ≡ true
-  above : 0 < offsetIn x
-  below : offsetIn x < 256
-
-suits-stick : (n : ℕ) → suits true (entryOf n) ≡ true → Suits (entryOf n)
-unfolding entryOf
-suits-stick n = go (eqb n 0) (leb n 255) (leb 257 n && leb n 511) refl refl refl
-  where
-    go : (a b c : Bool) → eqb n 0 ≡ a → leb n 255 ≡ b → (leb 257 n && leb n 511) ≡ c
-        → let x : Entry = cond a Nothing (cond b (Kept n) (cond c (Removed (n - 256)) Wrong)) in suits true x ≡ true → Suits x
-    go true b c ea eb ec h = absurd (false≢true h)
-    go false true c ea eb ec h =
-        let some : n ≡ 0 → ⊥ = eqb-false n 0 ea in
-        let most : n ≤ 255 = leb-true n 255 eb in
-        record { either = refl; above = omega arith; below = omega arith }
-    go false false true ea eb ec h =
-        let both = and-split (leb 257 n) (leb n 511) ec in
-        let least : 257 ≤ n = leb-true 257 n (both .0) in
-        let most : n ≤ 511 = leb-true n 511 (both .1) in
-        record { either = refl; above = omega arith; below = omega arith }
-    go false false false ea eb ec h = absurd (false≢true h)
-
 -- each stick has a vertex strictly inside
 abbrev pub Vertices : Layer → List ℕ → Type 0
 Vertices L t = (e : Edge) → isStick L e ≡ true → VertexInside L t e
-
--- off sticks an entry is 0
-suits-other : (x : Entry) → suits false x ≡ true → x ≡ Nothing
-suits-other Nothing s = refl
-suits-other (Kept o) s = absurd (false≢true s)
-suits-other (Removed o) s = absurd (false≢true s)
-suits-other Wrong s = absurd (false≢true s)
 
 module _ (L : Layer) (t : List ℕ) (sound : Sound L) (yes-6 : entriesAnswer L t ≡ Yes) where
   -- the entry of an edge of the grid suits it
@@ -79,8 +47,9 @@ module _ (L : Layer) (t : List ℕ) (sound : Sound L) (yes-6 : entriesAnswer L t
   pub vertices-of : Vertices L t
   unfolding keptAt removedAt offsetAt
   vertices-of e stick =
-      let s = suits-stick (getD t (number (L .size) e) 0) (rw stick at (edge-suits e (stick-in L e stick))) in
-      record { kept-or-removed = s .either; after-start = s .above; before-end = s .below }
+      let s : suits true (entryAt L t e) ≡ true = rw stick at (edge-suits e (stick-in L e stick)) in
+      let i = offset-inside (getD t (number (L .size) e) 0) s in
+      record { kept-or-removed = suits-vertex (entryAt L t e) s; after-start = i .low; before-end = omega (arith, i .high) }
 
   pub no-vertices-of : (e : Edge) → inGrid (L .size) e ≡ true → isStick L e ≡ false → entryAt L t e ≡ Nothing
   no-vertices-of e inside none = suits-other (entryAt L t e) (rw none at (edge-suits e inside))

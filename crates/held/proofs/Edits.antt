@@ -21,7 +21,8 @@ use Rattle.contour.proofs.First.{first-one}
 use Rattle.contour.proofs.Members.{on-one}
 use Rattle.contour.proofs.Sticks.{laws, same-edge}
 use Rattle.table.specs.Vertices.{keptAt}
-use Rattle.table.proofs.AllKept.{Inside}
+use Rattle.table.specs.Stores.{slid, without}
+use Rattle.table.proofs.Entries.{Inside}
 use Rattle.drawn.specs.Neighbours.{nextKept, previousKept}
 use Rattle.drawn.proofs.Gaps.{kept-not-removed, not-both}
 use Rattle.drawn.specs.Drawn.{edgeCrosses, Drawn}
@@ -31,7 +32,7 @@ use Rattle.drawn.proofs.Neighbours.{previous-next, next-previous, previous-draw
 use Rattle.drawn.proofs.SideLemma.{not-one, not-two}
 use Rattle.drawn.proofs.FourKept.{keptFrom-on, four-kept}
 use Rattle.drawn.proofs.Removal.{OneMore, still-drawn, next-as-before, next-over-removed, crosses-as-before}
-use Rattle.drawn.proofs.Stores.{slid, slide-kept, slide-next, slide-after, slide-vertex, slide-vertices, dropped, removal-vertex, removal-vertices, removal-more}
+use Rattle.drawn.proofs.Stores.{slide-kept, slide-next, slide-after, slide-vertex, slide-vertices, removal-vertex, removal-vertices, removal-more}
 use Rattle.held.specs.Held.{heldAnswer}
 use Rattle.held.proofs.HeldFacts.{HeldFacts, held-of}
 use Rattle.held.proofs.Holding.{layer-held}
@@ -84,10 +85,10 @@ module _ (L : Layer) (sound : Sound L) (t : List ℕ) (exact : length t ≡ edge
 
   -- A removal
 
-  vertices′ : Vertices L (dropped L t u)
+  vertices′ : Vertices L (without L t u)
   vertices′ = removal-vertices L sound t exact u drawn vertices
 
-  more : OneMore L t (dropped L t u) u
+  more : OneMore L t (without L t u) u
   more = removal-more L sound t exact u drawn vertices
 
   -- u is not the only kept vertex of its contour
@@ -97,32 +98,32 @@ module _ (L : Layer) (sound : Sound L) (t : List ℕ) (exact : length t ≡ edge
   previous-other : previousKept L t u ≢ u
   previous-other e = next-other (sym (ap (nextKept L t) e) ∙ next-previous L t sound vertices u drawn)
 
-  left : (p : Edge) → Drawn L t p → p ≢ u → Drawn L (dropped L t u) p
-  left = still-drawn L t (dropped L t u) sound vertices vertices′ u more
+  left : (p : Edge) → Drawn L t p → p ≢ u → Drawn L (without L t u) p
+  left = still-drawn L t (without L t u) sound vertices vertices′ u more
 
   -- the drawn edge from the kept vertex before u ends at the one after u now
-  pub removal-next : nextKept L (dropped L t u) (previousKept L t u) ≡ nextKept L t u
+  pub removal-next : nextKept L (without L t u) (previousKept L t u) ≡ nextKept L t u
   removal-next =
-      next-over-removed L t (dropped L t u) sound vertices vertices′ u more (previousKept L t u)
+      next-over-removed L t (without L t u) sound vertices vertices′ u more (previousKept L t u)
       (previous-drawn L t sound vertices u drawn) previous-other (next-previous L t sound vertices u drawn) next-other
 
-  module _ (over : edgeCrosses L (dropped L t u) (previousKept L t u) ≡ true) where
-    removal-crosses : (p : Edge) → Drawn L (dropped L t u) p → edgeCrosses L (dropped L t u) p ≡ true
+  module _ (over : edgeCrosses L (without L t u) (previousKept L t u) ≡ true) where
+    removal-crosses : (p : Edge) → Drawn L (without L t u) p → edgeCrosses L (without L t u) p ≡ true
     removal-crosses p d′ =
-        let n : p ≢ u = λ s. not-both L (dropped L t u) u (subst (λ (x : Edge). keptAt L (dropped L t u) x ≡ true) s (d′ .kept)) (more .now-removed) in
+        let n : p ≢ u = λ s. not-both L (without L t u) u (subst (λ (x : Edge). keptAt L (without L t u) x ≡ true) s (d′ .kept)) (more .now-removed) in
         let d : Drawn L t p =
-        kept-of L t sound vertices p (d′ .stick) (sym (more .others p (d′ .stick) n) ∙ kept-not-removed L (dropped L t u) p (d′ .kept)) in
+        kept-of L t sound vertices p (d′ .stick) (sym (more .others p (d′ .stick) n) ∙ kept-not-removed L (without L t u) p (d′ .kept)) in
         both-sides (sameEdge p (previousKept L t u))
         (λ q. rw (same-edge p (previousKept L t u) q) over)
-        (λ q. crosses-as-before L t (dropped L t u) sound vertices vertices′ u more (removal-vertex L sound t exact u drawn vertices) p d n
+        (λ q. crosses-as-before L t (without L t u) sound vertices vertices′ u more (removal-vertex L sound t exact u drawn vertices) p d n
         (λ e. differ q (only-previous p d e)) (held .crossed p d))
 
     -- each contour has a kept vertex left: on that of u the next one
-    some-left : (f : Edge) → isStick L f ≡ true → (x : Edge) × On (walkOf L) f x × (keptAt L (dropped L t u) x ≡ true)
+    some-left : (f : Edge) → isStick L f ≡ true → (x : Edge) × On (walkOf L) f x × (keptAt L (without L t u) x ≡ true)
     some-left f stick =
         let k = held .some-kept f stick in
         let x : Edge = k .0 in
-        both-sides (sameEdge x u) {P = (x : Edge) × On (walkOf L) f x × (keptAt L (dropped L t u) x ≡ true)}
+        both-sides (sameEdge x u) {P = (x : Edge) × On (walkOf L) f x × (keptAt L (without L t u) x ≡ true)}
         (λ s. (
           nextKept L t u,
           keptFrom-on L t sound vertices f stick (edgeCount (L .size)) u (subst (On (walkOf L) f) (same-edge x u s) (k .1)),
@@ -130,27 +131,27 @@ module _ (L : Layer) (sound : Sound L) (t : List ℕ) (exact : length t ≡ edge
         ))
         (λ s. (x, k .1, left x (record { stick = on-one (walkOf L) (laws L sound) f x stick (k .1); kept = k .2 }) (differ s) .kept))
 
-    pub removal-held : heldAnswer L (dropped L t u) ≡ Yes
+    pub removal-held : heldAnswer L (without L t u) ≡ Yes
     removal-held =
-        layer-held L (dropped L t u) sound vertices′ removal-crosses (λ f h. some-left f (first-one (walkOf L) (laws L sound) f h))
+        layer-held L (without L t u) sound vertices′ removal-crosses (λ f h. some-left f (first-one (walkOf L) (laws L sound) f h))
 
     -- question 13: by the number of kept vertices left,
-    pub removal-three : 3 ≤ among (keptAt L (dropped L t u)) (contourOf L u)
+    pub removal-three : 3 ≤ among (keptAt L (without L t u)) (contourOf L u)
     removal-three =
         let k = some-left u (drawn .stick) in
-        omega (arith, four-kept L (dropped L t u) sound vertices′ u (drawn .stick) (k .0) (k .1) (k .2) (λ p o d. removal-crosses p d))
+        omega (arith, four-kept L (without L t u) sound vertices′ u (drawn .stick) (k .0) (k .1) (k .2) (λ p o d. removal-crosses p d))
 
     -- and by a walk of two gaps: the kept vertices before and after u differ, and there is a third
     pub removal-second : previousKept L t u ≢ nextKept L t u
     removal-second e =
         let P = previousKept L t u in
-        not-one L (dropped L t u) sound vertices′ P (left P (previous-drawn L t sound vertices u drawn) previous-other) over (removal-next ∙ sym e)
+        not-one L (without L t u) sound vertices′ P (left P (previous-drawn L t sound vertices u drawn) previous-other) over (removal-next ∙ sym e)
 
     pub removal-third : nextKept L t (nextKept L t u) ≢ previousKept L t u
     removal-third e =
         let P = previousKept L t u in
         let N = nextKept L t u in
-        let t′ = dropped L t u in
+        let t′ = without L t u in
         let dN = end-drawn L t sound vertices u drawn in
         let dP′ = left P (previous-drawn L t sound vertices u drawn) previous-other in
         let as-before : nextKept L t′ N ≡ nextKept L t N =

@@ -72,7 +72,7 @@ module _ (L : Layer) (t : List ℕ) (sound : Sound L) (vertices : Vertices L t) 
 
 pub all-kept-accepted : (L : Layer) (t : List ℕ) → Sound L → AllKept L t → Accepted L t
 all-kept-accepted L t sound kept =
-    let yes-6 = passes-entries L t kept (sound .whole .sized) in
+    let yes-6 = passes-entries L t kept sound in
     record {
       sound = sound;
       exact = kept .whole;
@@ -84,4 +84,4 @@ all-kept-accepted L t sound kept =
 pub kept-yes : (L : Layer) (t : List ℕ) → Sound L → length t ≡ edgeCount (L .size) → entriesAnswer L t ≡ Yes → allKeptAnswer (L .size) t ≡ Yes
     → Yes ≡ firstNo (heldAnswer L t ∷ allKeptAnswer (L .size) t ∷ [])
 kept-yes L t sound exact entries all-kept =
-    rw (all-kept-accepted L t sound (all-kept-of L t (sound .whole .sized) exact entries all-kept) .held, all-kept)
+    rw (all-kept-accepted L t sound (all-kept-of L t sound exact entries all-kept) .held, all-kept)

@@ -20,12 +20,13 @@ use Rattle.contour.specs.Contours.{walkOf, contourOf}
 use Rattle.contour.proofs.Orbit.{same-false}
 use Rattle.contour.proofs.Sticks.{laws}
 use Rattle.table.specs.Vertices.{keptAt}
+use Rattle.table.specs.Stores.{slid, without}
 use Rattle.drawn.specs.Neighbours.{nextKept, previousKept}
 use Rattle.drawn.specs.Drawn.{edgeCrosses, Drawn}
 use Rattle.held.specs.Questions.{Accepted}
 use Rattle.held.proofs.Edits.{removal-three, removal-second, removal-third}
 use Rattle.roll.specs.Commands.{Named, askAt}
-use Rattle.roll.specs.Edits.{edgeNamed, carriesKept, goodOffset, slid, without, edgeWithin, slideAnswer, removalAnswer}
+use Rattle.roll.specs.Edits.{edgeNamed, carriesKept, goodOffset, edgeWithin, slideAnswer, removalAnswer}
 use Rattle.roll.specs.declared.redraw.Chord.{Chord}
 use Rattle.roll.specs.Chords.{slidInto, slidOut, joinedOver, crossesChord, withinChord, chordsAnswer, namesKept, thirdLeft}
 use Rattle.roll.proofs.Within.{chord-within, chord-crosses}

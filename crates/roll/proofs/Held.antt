@@ -8,9 +8,10 @@ use Rattle.grid.specs.Questions.{firstNo, ifAllYes, numberOf}
 use Rattle.grid.specs.declared.question.Refusal.{Refusal}
 use Rattle.grid.specs.declared.question.Answer.{Answer}
 use Rattle.grid.specs.declared.question.Answer.the-variants.{Yes, No}
+use Rattle.table.specs.Stores.{slid, without}
 use Rattle.held.specs.Questions.{heldQuestions, Accepted}
 use Rattle.roll.specs.Commands.{Command, commandAt, rollAnswer, slides, removes, ends, wrong}
-use Rattle.roll.specs.Edits.{edgeNamed, slid, without, slideAnswer, removalAnswer}
+use Rattle.roll.specs.Edits.{edgeNamed, slideAnswer, removalAnswer}
 use Rattle.roll.specs.Roll.{Outcome, runFrom, rollOf}
 use Rattle.roll.proofs.Asked.{slide-keeps, removal-keeps}
 use Rattle.roll.proofs.Steps.{run-by}

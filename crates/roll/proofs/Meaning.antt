@@ -21,7 +21,7 @@ use Rattle.chord.specs.Crossing.{crosses, slidesWithin}
 use Rattle.chord.proofs.Tolerance.{slides-is}
 use Rattle.table.specs.Entries.{entriesAnswer}
 use Rattle.table.specs.Vertices.{keptAt, offsetAt}
-use Rattle.table.proofs.AllKept.{Inside}
+use Rattle.table.specs.Stores.{slid, without}
 use Rattle.drawn.specs.Neighbours.{gapAfter, nextKept, previousKept}
 use Rattle.drawn.specs.Drawn.{vertex, edgeCrosses, Drawn, Between}
 use Rattle.drawn.proofs.Vertices.{vertices-of}
@@ -32,7 +32,7 @@ use Rattle.held.proofs.HeldFacts.{each-at}
 use Rattle.held.proofs.Holding.{each-all}
 use Rattle.held.proofs.Meaning.{between-owned, crossing-is}
 use Rattle.roll.specs.Commands.{Named}
-use Rattle.roll.specs.Edits.{edgeNamed, edgeWithin, carriesKept, goodOffset, slid, without, slideAnswer, removalAnswer}
+use Rattle.roll.specs.Edits.{edgeNamed, edgeWithin, carriesKept, goodOffset, slideAnswer, removalAnswer}
 use Rattle.roll.specs.Meaning.{CrossesRemoved, RemovedWithin, Redrawn, SlideAccepted, RemovalAccepted}
 use Rattle.roll.proofs.Redrawn.{vertices, inside-of, before-drawn, before-other}
 use Rattle.roll.proofs.Asked.{four-yes, yes-four, named-drawn}

@@ -24,7 +24,8 @@ use Rattle.table.specs.Entries.{suits, wrongAt, entriesAnswer}
 use Rattle.table.specs.Vertices.{isKept, entryAt, keptAt, removedAt, offsetAt}
 use Rattle.table.specs.declared.entry.Entry.{Entry}
 use Rattle.table.specs.declared.entry.Entry.the-variants.{Nothing, Kept, Removed, Wrong}
-use Rattle.table.proofs.AllKept.{Inside}
+use Rattle.table.proofs.Entries.{Inside}
+use Rattle.table.specs.Stores.{slid, without}
 use Rattle.drawn.specs.Neighbours.{gapAfter, gapBefore, nextKept, previousKept}
 use Rattle.drawn.proofs.Gaps.{not-both}
 use Rattle.drawn.specs.Drawn.{vertex, edgeCrosses, Drawn}
@@ -37,7 +38,7 @@ use Rattle.drawn.proofs.Stores.{slide-removed, slide-next, slide-after, slide-o
 use Rattle.held.specs.Questions.{Accepted}
 use Rattle.held.proofs.HeldFacts.{HeldFacts, held-of}
 use Rattle.held.proofs.Edits.{slide-held, removal-held}
-use Rattle.roll.specs.Edits.{goodOffset, slid, without}
+use Rattle.roll.specs.Edits.{goodOffset}
 use Rattle.roll.specs.Chords.{chordOf}
 use Rattle.roll.proofs.GapLengths.{before-after, joined}
 

@@ -13,12 +13,13 @@ use Rattle.grid.specs.declared.question.Refusal.the-variants.{Malformed}
 use Rattle.grid.specs.declared.question.Answer.{Answer}
 use Rattle.grid.specs.declared.question.Answer.the-variants.{Yes, No}
 use Rattle.grid.proofs.Answers.{no-not-yes}
+use Rattle.table.specs.Stores.{slid, without}
 use Rattle.held.specs.Questions.{Accepted}
 use Rattle.roll.specs.declared.rolling.Rolled.the-variants.{Done, Refused}
 use Rattle.roll.specs.declared.rolling.Step.{Step}
 use Rattle.roll.specs.declared.rolling.Step.the-variants.{On, End, Stop}
 use Rattle.roll.specs.Commands.{Named, Command, slides, removes, ends, wrong, commandAt, rollAnswer}
-use Rattle.roll.specs.Edits.{edgeNamed, slid, without, slideAnswer, removalAnswer}
+use Rattle.roll.specs.Edits.{edgeNamed, slideAnswer, removalAnswer}
 use Rattle.roll.specs.Chords.{storedIf}
 use Rattle.roll.specs.Steps.{Stepped, stepped, stepOn, stepBy, slideStep, removalStep, stepOf}
 use Rattle.roll.specs.Roll.{Outcome, outcome, runFrom}

@@ -19,10 +19,11 @@ use Rattle.chord.specs.Crossing.{slidesWithin}
 use Rattle.chord.specs.Runs.{crossesRun, Near}
 use Rattle.table.specs.Entries.{entryOf}
 use Rattle.table.specs.Vertices.{isKept, offsetAt}
+use Rattle.table.specs.Stores.{slid, without}
 use Rattle.drawn.specs.Neighbours.{gapAfter, nextKept, previousKept}
 use Rattle.drawn.specs.Drawn.{vertex, Ends, drawnFrom}
 use Rattle.roll.specs.Commands.{Named, askAt}
-use Rattle.roll.specs.Edits.{edgeNamed, slid, without}
+use Rattle.roll.specs.Edits.{edgeNamed}
 use Rattle.roll.specs.declared.redraw.Chord.{Chord}
 
 -- the vertices of the n sticks that follow e on its contour would slide at most T to the chord from p to q, from their stored offsets

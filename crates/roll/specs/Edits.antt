@@ -1,12 +1,11 @@
 -- One edit of a roll: questions 9 to 13, and the table after it. "An accepted edit writes the named stick's entry and no other."
 use mathlib.Core.Bool.{Bool, _&&_}
 use mathlib.Core.List.{List, [], _∷_}
-use Prim.Native.Nat.{ℕ, _+_}
+use Prim.Native.Nat.{ℕ}
 use lib.Dec.{eqb, leb}
-use lib.ListN.{set}
 use Rattle.arith.specs.Lists.{each, among}
 use Rattle.grid.specs.Layer.{Layer}
-use Rattle.grid.specs.Edges.{number, inGrid}
+use Rattle.grid.specs.Edges.{inGrid}
 use Rattle.grid.specs.Questions.{firstNo}
 use Rattle.grid.specs.declared.edge.Edge.{Edge}
 use Rattle.grid.specs.declared.question.Refusal.{Refusal}
@@ -15,6 +14,7 @@ use Rattle.grid.specs.declared.question.Answer.{Answer}
 use Rattle.contour.specs.Contours.{contourOf}
 use Rattle.chord.specs.Crossing.{slidesWithin}
 use Rattle.table.specs.Vertices.{keptAt, offsetAt}
+use Rattle.table.specs.Stores.{slid, without}
 use Rattle.drawn.specs.Neighbours.{gapAfter, nextKept, previousKept}
 use Rattle.drawn.specs.Drawn.{vertex, edgeCrosses}
 use Rattle.roll.specs.Commands.{Named, askAt}
@@ -36,13 +36,6 @@ carriesKept L t s = leb (s .kind) 1 && inGrid (L .size) (edgeNamed s) && keptAt 
 -- "10. Is the new offset 1 to 255?"
 abbrev pub goodOffset : ℕ → Bool
 goodOffset o = leb 1 o && leb o 255
-
--- the table with the vertex of e slid to an offset, and with it removed at the offset it has
-abbrev pub slid : Layer → List ℕ → Edge → ℕ → List ℕ
-slid L t e o = set t (number (L .size) e) o
-
-abbrev pub without : Layer → List ℕ → Edge → List ℕ
-without L t e = set t (number (L .size) e) (256 + offsetAt L t e)
 
 module _ (L : Layer) (tolerance : ℕ) (t : List ℕ) (place : ℕ) where
   -- "A slide redraws the two edges at that vertex. Each redrawn edge is tested as a chord with T.": those that start at the kept vertex

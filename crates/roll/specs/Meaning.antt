@@ -10,10 +10,11 @@ use Rattle.grid.specs.declared.edge.Edge.{Edge}
 use Rattle.contour.specs.Contours.{contourOf}
 use Rattle.chord.specs.Points.{Crosses, MeetsWithin, CrossesWithin}
 use Rattle.table.specs.Vertices.{keptAt, offsetAt}
+use Rattle.table.specs.Stores.{slid, without}
 use Rattle.drawn.specs.Neighbours.{nextKept, previousKept}
 use Rattle.drawn.specs.Drawn.{vertex, Between}
 use Rattle.roll.specs.Commands.{Named}
-use Rattle.roll.specs.Edits.{edgeNamed, carriesKept, goodOffset, slid, without}
+use Rattle.roll.specs.Edits.{edgeNamed, carriesKept, goodOffset}
 
 -- the drawn edge that starts at the kept vertex of e, on the table after the edit:
 -- "11. Does each redrawn edge cross its removed sticks, the one being removed included?"

@@ -5,11 +5,12 @@ use Prim.Native.Nat.{ℕ, zero, suc, _+_}
 use lib.ListN.{length}
 use Rattle.grid.specs.Layer.{Layer}
 use Rattle.grid.specs.Questions.{firstNo, ifAllYes, numberOf}
+use Rattle.table.specs.Stores.{slid, without}
 use Rattle.held.specs.Questions.{heldQuestions}
 use Rattle.roll.specs.declared.rolling.Rolled.{Rolled}
 use Rattle.roll.specs.declared.rolling.Rolled.the-variants.{Done, Refused}
 use Rattle.roll.specs.Commands.{commandAt, rollAnswer, slides, removes, ends, wrong}
-use Rattle.roll.specs.Edits.{edgeNamed, slid, without, slideAnswer, removalAnswer}
+use Rattle.roll.specs.Edits.{edgeNamed, slideAnswer, removalAnswer}
 
 -- the number of a refusal and its place, both 0 where the call is done; "the commands done, E not counted"; and the table at exit
 pub record Outcome : Type 0 where

@@ -5,10 +5,11 @@ use Rattle.grid.specs.Layer.{Layer}
 use Rattle.grid.specs.Questions.{ifAllYes}
 use Rattle.grid.specs.declared.question.Refusal.the-variants.{Malformed}
 use Rattle.grid.specs.declared.question.Answer.{Answer}
+use Rattle.table.specs.Stores.{slid, without}
 use Rattle.roll.specs.declared.rolling.Step.{Step}
 use Rattle.roll.specs.declared.rolling.Step.the-variants.{On, End, Stop}
 use Rattle.roll.specs.Commands.{Named, commandAt, slides, removes, ends, wrong}
-use Rattle.roll.specs.Edits.{edgeNamed, slid, without, slideAnswer, removalAnswer}
+use Rattle.roll.specs.Edits.{edgeNamed, slideAnswer, removalAnswer}
 
 pub record Stepped : Type 0 where
   pub step : Step

@@ -14,27 +14,19 @@ use grid::Refusal;
 use grid::Size;
 use grid::edge_columns;
 use grid::edge_rows;
-use grid::number_of;
+use table::Entry;
 use table::entry_at;
 use table::is_kept;
-use table::offset_in;
 ghost use mathlib.Core.Path.{_≡_};
-ghost use Prim.Native.Nat.{_<_};
 ghost use lib.ListN.{length};
 ghost use Rattle.grid.specs.Layer.{layerOf};
 ghost use Rattle.grid.specs.Edges.{inGrid, edgeCount};
 ghost use Rattle.grid.specs.Questions.{Sized, Sound};
+ghost use Rattle.table.specs.Stores.{slid, without};
 ghost use Rattle.drawn.specs.Drawn.{Drawn};
 ghost use Rattle.held.specs.Questions.{Accepted};
-ghost use Rattle.roll.specs.Edits.{edgeNamed, slid, without, slideAnswer, removalAnswer};
+ghost use Rattle.roll.specs.Edits.{edgeNamed, slideAnswer, removalAnswer};
 ghost use Rattle.roll.specs.Chords.{chordsAnswer, namesKept, thirdLeft, storedIf, Laid};
-
-fn widen_entry(offset: u8) -> u16
-    ensures { λ r. ⌜ r ≡ offset ⌝ }
-    ensures { λ r. ⌜ r < 256 ⌝ }
-{
-    offset as u16
-}
 
 fn edge_named(stick: Named) -> Edge
     ensures { λ r. ⌜ r ≡ edgeNamed stick ⌝ }
@@ -189,8 +181,7 @@ pub fn slide(
     let Answer::Yes = answer else {
         return answer;
     };
-    let n = number_of(size, edge_named(stick));
-    table[n] = widen_entry(offset);
+    table::store(size, table, edge_named(stick), Entry::Kept(offset));
     Answer::Yes
 }
 
@@ -211,9 +202,6 @@ pub fn remove(
     let Answer::Yes = answer else {
         return answer;
     };
-    let e = edge_named(stick);
-    let offset = widen_entry(offset_in(entry_at(size, table, e)));
-    let n = number_of(size, e);
-    table[n] = 256 + offset;
+    table::remove(size, table, edge_named(stick));
     Answer::Yes
 }

@@ -4,10 +4,10 @@ use mathlib.Core.Bool.{true, false}
 use mathlib.Core.List.{List, [], _∷_, map, flatten, foldl, foldl-append, foldl-map}
 use Prim.Native.Nat.{ℕ, _+_, _*_, _≤_, _<_}
 use native.Mathlib.Omega.{arith}
-use lib.ListN.{length, set, length-set}
+use lib.ListN.{length}
 use Rattle.arith.specs.Ranges.{length-tabulateFrom}
 use Rattle.grid.specs.Layer.{Layer}
-use Rattle.grid.specs.Edges.{number, isStick, edgeAt, edgeCount, kindStart}
+use Rattle.grid.specs.Edges.{isStick, edgeAt, edgeCount, kindStart}
 use Rattle.step.specs.Walk.{next}
 use Rattle.grid.specs.Questions.{Sound}
 use Rattle.grid.specs.declared.edge.Edge.{Edge}
@@ -18,6 +18,9 @@ use Rattle.contour.specs.Sets.{FirstSet, nextIn}
 use Rattle.contour.proofs.Loop.{Due, start, due-one, due-next, rest-more, turn, last}
 use Rattle.contour.proofs.Sticks.{laws}
 use Rattle.contour.proofs.FirstSets.{Stop, next-stop, stop-stick, firsts-start, firsts-turn, firsts-end}
+use Rattle.table.specs.Stores.{store}
+use Rattle.table.specs.declared.entry.Entry.{Entry}
+use Rattle.table.proofs.Stores.{store-length}
 use Rattle.sheet.specs.Reading.{vertexOf, entryFrom, Reading, takeCommand, noEntries, sheetAnswer, described}
 use Rattle.sheet.specs.Places.{expectedFrom, readingAt, storeVertex, Begins}
 use Rattle.sheet.proofs.ReadStands.{from-cons, begins-start, begins-next, begins-room}
@@ -43,18 +46,18 @@ module _ (L : Layer) (sound : Sound L) (s : List ℕ) (f : Edge) (i : ℕ) (t₀
     unfolding rest
     storing-room = omega (arith, st .room)
 
-    pub storing-below : (n : ℕ) → n ≡ number (L .size) e → n < length t
-    storing-below n q = omega (arith, q, st .sized, laws L sound .number-less e storing-stick)
+    module _ (x : Entry) (given : x ≡ entryFrom s at) (t′ : List ℕ) (put : t′ ≡ store (L .size) t e x) (e′ : Edge) (step : e′ ≡ next L e) where
+      stored : readingAt (at + 2) t′ ≡ storeVertex L s (readingAt at t) e
+      stored = ap (readingAt (at + 2)) (put ∙ ap (store (L .size) t e) given)
 
-    module _ (n v : ℕ) (place : n ≡ number (L .size) e) (value : v ≡ entryFrom s at) (e′ : Edge) (step : e′ ≡ next L e) where
-      stored : readingAt (at + 2) (set t n v) ≡ storeVertex L s (readingAt at t) e
-      stored = λ j. readingAt (at + 2) (set t (place j) (value j))
+      pub stored-whole : length t′ ≡ edgeCount (L .size)
+      stored-whole = ap length put ∙ store-length L t e x ∙ st .sized
 
-      pub storing-turn : sameEdge e′ f ≡ false → Storing L s f i t₀ e′ (at + 2) (set t n v)
+      pub storing-turn : sameEdge e′ f ≡ false → Storing L s f i t₀ e′ (at + 2) t′
       storing-turn differ =
           record {
             due = due-next (walkOf L) (laws L sound) f e e′ (st .due) step;
-            sized = length-set t n v ∙ st .sized;
+            sized = stored-whole;
             room = omega (arith, st .room, ap length (rest-more (walkOf L) (laws L sound) f e e′ (st .due) step differ));
             still =
                 ap (λ (r : Reading). foldl (storeVertex L s) r (rest (walkOf L) e′ f)) stored
@@ -62,7 +65,7 @@ module _ (L : Layer) (sound : Sound L) (s : List ℕ) (f : Edge) (i : ℕ) (t₀
           }
 
       pub storing-last : sameEdge e′ f ≡ true
-          → readingAt (at + 2) (set t n v) ≡ foldl (storeVertex L s) (readingAt i t₀) (contourOf L f)
+          → readingAt (at + 2) t′ ≡ foldl (storeVertex L s) (readingAt i t₀) (contourOf L f)
       storing-last same = stored ∙ last (walkOf L) (laws L sound) f e e′ (st .due) step same (storeVertex L s) (readingAt at t) _ (st .still)
 
 -- All contours, from the first stick with number n on, expected at `at`
@@ -74,7 +77,7 @@ stored-at L s (e ∷ l) r = omega (arith, stored-at L s l (storeVertex L s r e))
 stored-length : (L : Layer) (s : List ℕ) (l : List Edge) (r : Reading) → length (foldl (storeVertex L s) r l .table) ≡ length (r .table)
 stored-length L s [] r = refl
 stored-length L s (e ∷ l) r =
-    stored-length L s l (storeVertex L s r e) ∙ length-set (r .table) (number (L .size) e) (entryFrom s (r .at))
+    stored-length L s l (storeVertex L s r e) ∙ store-length L (r .table) e (entryFrom s (r .at))
 
 pub record Filling (L : Layer) (s : List ℕ) (n at : ℕ) (t : List ℕ) : Type 0 where
   pub stop : Stop L n

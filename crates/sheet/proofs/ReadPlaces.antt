@@ -6,8 +6,8 @@ use mathlib.Core.Bool.{true, false, true≢false}
 use mathlib.Core.List.{List, [], _∷_, _++_, map, flatten, foldl, foldl-append}
 use Prim.Native.Nat.{ℕ, _+_, _*_, _<_}
 use native.Mathlib.Omega.{arith}
-use lib.ListN.{length, getD, length-set}
-use lib.Seq.{getD-set-same, getD-set-other}
+use lib.ListN.{length, getD}
+use lib.Seq.{getD-set-same}
 use Rattle.arith.specs.Booleans.{asNumber, both-sides}
 use Rattle.arith.specs.Ranges.{length-tabulateFrom, getD-tabulate}
 use Rattle.grid.specs.Layer.{Layer}
@@ -23,6 +23,8 @@ use Rattle.contour.proofs.Orbit.{number-inj}
 use Rattle.contour.proofs.Members.{occurrences-append}
 use Rattle.contour.proofs.Sticks.{laws, same-edge, same-self}
 use Rattle.contour.proofs.Theorems.{permutation}
+use Rattle.table.specs.Entries.{encoded}
+use Rattle.table.proofs.Stores.{store-elsewhere, store-length}
 use Rattle.sheet.specs.Commands.{endCommand}
 use Rattle.sheet.specs.Reading.{Expected, these, vertexOf, width, isAt, expectedContour, expectedSheet, commandsFrom, sheetAnswer, entryFrom, Reading, takeCommand, noEntries, described}
 use Rattle.sheet.specs.Places.{widths}
@@ -111,7 +113,7 @@ module _ (L : Layer) where
     taken-length [] r = refl
     taken-length (these bytes ∷ xs) r = taken-length xs (takeCommand L s r (these bytes))
     taken-length (vertexOf e ∷ xs) r =
-        taken-length xs (takeCommand L s r (vertexOf e)) ∙ length-set (r .table) (number (L .size) e) (entryFrom s (r .at))
+        taken-length xs (takeCommand L s r (vertexOf e)) ∙ store-length L (r .table) e (entryFrom s (r .at))
 
     -- an entry that no expected vertex has
     untouched : (xs : List Expected) (r : Reading) (k : ℕ)
@@ -122,7 +124,7 @@ module _ (L : Layer) where
     untouched (these bytes ∷ xs) r k h = untouched xs (takeCommand L s r (these bytes)) k h
     untouched (vertexOf e ∷ xs) r k h =
         untouched xs (takeCommand L s r (vertexOf e)) k (λ d o. h d (omega arith))
-        ∙ getD-set-other (r .table) (number (L .size) e) k (entryFrom s (r .at)) 0 (h e (omega (arith, ap asNumber (same-self e))))
+        ∙ store-elsewhere L (r .table) e (entryFrom s (r .at)) k (h e (omega (arith, ap asNumber (same-self e))))
 
     abbrev pub atStart : Reading
     atStart = record { at = 0; table = noEntries L }
@@ -159,7 +161,7 @@ module _ (L : Layer) where
             omega (arith, parts y, ap asNumber (same-self y), expected-once y, ap asNumber here-stick)
 
         -- so the table has what its command gives
-        pub described-here : getD (described L s) (number (L .size) y) 0 ≡ entryFrom s (widths pre)
+        pub described-here : getD (described L s) (number (L .size) y) 0 ≡ encoded (entryFrom s (widths pre))
         unfolding described
         described-here =
             let before = foldl (takeCommand L s) atStart pre in
@@ -173,8 +175,8 @@ module _ (L : Layer) where
             ap (λ (xs : List Expected). getD (foldl (takeCommand L s) atStart xs .table) (number (L .size) y) 0) (sym joined)
             ∙ ap (λ (r : Reading). getD (r .table) (number (L .size) y) 0) (foldl-append (takeCommand L s) atStart pre (vertexOf y ∷ post))
             ∙ untouched post (takeCommand L s before (vertexOf y)) (number (L .size) y) later-other
-            ∙ getD-set-same (before .table) (number (L .size) y) (entryFrom s (before .at)) 0 room
-            ∙ ap (entryFrom s) z
+            ∙ getD-set-same (before .table) (number (L .size) y) (encoded (entryFrom s (before .at))) 0 room
+            ∙ ap (λ (i : ℕ). encoded (entryFrom s i)) z
 
         pub stands-here : sheetAnswer L s ≡ Yes → isAt s (widths pre) (vertexOf y) ≡ true
         unfolding sheetAnswer

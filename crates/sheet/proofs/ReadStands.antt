@@ -1,7 +1,7 @@
 -- The vertices of one contour in a well-formed sheet: where each stands, and that the described table says of its stick what its command says.
 use mathlib.Core.Path.{_≡_, refl, sym, _∙_, ap}
 use mathlib.Core.Logic.{inl, inr}
-use mathlib.Core.Bool.{Bool, true, false, cond, _&&_, _||_}
+use mathlib.Core.Bool.{Bool, true, false, cond, not, _&&_, _||_}
 use mathlib.Core.List.{List, [], _∷_, _++_, map, flatten, append-assoc, map-append}
 use Prim.Native.Nat.{ℕ, suc, _+_, _*_, _≤_, _<_}
 use native.Mathlib.Nat.{eq-or-lt-of-le}
@@ -24,10 +24,11 @@ use Rattle.contour.specs.Walk.{ahead}
 use Rattle.contour.specs.Contours.{walkOf, contourOf, firstSticks, sameEdge}
 use Rattle.contour.proofs.Orbit.{ahead-next, ahead-one, round, unlike, contour-at}
 use Rattle.contour.proofs.Sticks.{laws}
-use Rattle.table.specs.Entries.{entryOf, suits, wrong, wrongAt, entriesAnswer}
+use Rattle.table.specs.Entries.{entryOf, encoded, suits, wrong, wrongAt, entriesAnswer}
 use Rattle.table.specs.Vertices.{isKept, isRemoved, offsetIn, keptAt, removedAt, offsetAt}
 use Rattle.table.specs.declared.entry.Entry.{Entry}
-use Rattle.table.proofs.AllKept.{Inside, kept-entry, removed-entry}
+use Rattle.table.specs.declared.entry.Entry.the-variants.{Nothing, Kept, Removed}
+use Rattle.table.proofs.Entries.{Inside, entry-encoded, entry-nothing}
 use Rattle.sheet.specs.Commands.{sizeCommand, contourCommand, endCommand}
 use Rattle.sheet.specs.Reading.{Expected, these, vertexOf, expectedContour, expectedSheet, commandsFrom, sheetAnswer, described}
 use Rattle.sheet.specs.Places.{widths, expectedFrom, Begins, Standing, Stands}
@@ -47,7 +48,7 @@ or-first true b e f = refl
 or-first false b e f = absurd (omega (arith, ap asNumber (sym f ∙ e)))
 
 pub vertex-says : (a o : ℕ) → ((eqb a 0x4B || eqb a 0x52) && ltb 0 o) ≡ true → o < 256
-    → Says a o (entryOf (cond (eqb a 0x52) (256 + o) o))
+    → Says a o (entryOf (encoded (cond (eqb a 0x52) (Removed o) (Kept o))))
 vertex-says a o h small =
     let both = and-split (eqb a 0x4B || eqb a 0x52) (ltb 0 o) h in
     let some : 0 < o = ltb-true 0 o (both .1) in
@@ -55,10 +56,10 @@ vertex-says a o h small =
     both-sides (eqb a 0x52)
     (λ t.
     let other : eqb a 0x4B ≡ false = ne-eqb a 0x4B (λ e. omega (arith, eqb-true a 0x52 t)) in
-    rw (t, removed-entry o inside) (record { is-kept = sym other; is-removed = sym t; offset = refl; right = refl }))
+    rw (t, entry-encoded (Removed o) inside) (record { is-kept = sym other; is-removed = sym t; offset = refl; right = refl }))
     (λ f.
     let this : eqb a 0x4B ≡ true = or-first (eqb a 0x4B) (eqb a 0x52) (both .0) f in
-    rw (f, kept-entry o inside) (record { is-kept = sym this; is-removed = sym f; offset = refl; right = refl }))
+    rw (f, entry-encoded (Kept o) inside) (record { is-kept = sym this; is-removed = sym f; offset = refl; right = refl }))
 
 -- vertex commands that stand one after the other lie within the sheet
 vertices-room : (s : List ℕ) (l : List Edge) (later : List Expected) (i : ℕ) → i ≤ length s
@@ -206,9 +207,8 @@ module _ (L : Layer) (s : List ℕ) (bytes : (k : ℕ) → getD s k 0 < 256) (f 
 
 -- The described table passes question 6
 
-none : wrong false 0 ≡ false
-unfolding entryOf
-none = refl
+none : wrong false (encoded Nothing) ≡ false
+none = ap (λ (x : Entry). not (suits false x)) entry-nothing
 
 module _ (L : Layer) (s : List ℕ) (bytes : (k : ℕ) → getD s k 0 < 256) (sound : Sound L) (yes-8 : sheetAnswer L s ≡ Yes) where
   stick-right : (y : Edge) → isStick L y ≡ true → suits true (entryOf (getD (described L s) (number (L .size) y) 0)) ≡ true

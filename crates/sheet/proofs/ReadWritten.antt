@@ -1,13 +1,13 @@
 -- Writing and reading undo each other: the sheet of a table is well formed and describes that table, and an accepted sheet is the sheet of the
 -- table that it describes, byte for byte.
 use mathlib.Core.Path.{_≡_, refl, sym, _∙_, ap}
-use mathlib.Core.Bool.{Bool, true, false, false≢true, cond, not, _&&_, _||_}
+use mathlib.Core.Bool.{true, false, false≢true, cond, _&&_, _||_}
 use mathlib.Core.List.{List, [], _∷_, _++_, map, flatten, append-assoc}
-use Prim.Native.Nat.{ℕ, suc, _+_, _-_, _≤_, _<_}
+use Prim.Native.Nat.{ℕ, suc, _+_, _≤_, _<_}
 use native.Mathlib.Omega.{arith}
 use native.Mathlib.Numerals.{add-one}
-use borrow.Author.Tests.{eqb-true, eqb-false, leb-true, eq-eqb, lt-ltb}
-use lib.Dec.{eqb, leb, ltb}
+use borrow.Author.Tests.{eqb-true, eq-eqb, lt-ltb, not-false}
+use lib.Dec.{eqb, ltb}
 use lib.ListN.{length, getD, drop, length-append, drop-of-length-le}
 use lib.Seq.{getD-append-add, getD-append-seam, drop-cons, ext-getD}
 use Rattle.arith.specs.Booleans.{asNumber, both-sides, and-split}
@@ -23,10 +23,11 @@ use Rattle.contour.specs.Walk.{occurrences}
 use Rattle.contour.specs.Contours.{walkOf, contourOf, firstSticks}
 use Rattle.contour.proofs.Members.{occurrences-append}
 use Rattle.contour.proofs.Sticks.{same-self}
-use Rattle.table.specs.Entries.{entryOf, suits, wrong, wrongAt, entriesAnswer, lengthQuestions}
-use Rattle.table.specs.Vertices.{entryAt}
+use Rattle.table.specs.Entries.{entryOf, encoded, suits, wrong, wrongAt, entriesAnswer, lengthQuestions}
+use Rattle.table.specs.Vertices.{offsetIn, entryAt}
 use Rattle.table.specs.declared.entry.Entry.{Entry}
 use Rattle.table.specs.declared.entry.Entry.the-variants.{Nothing, Kept, Removed, Wrong}
+use Rattle.table.proofs.Entries.{encoded-entry, offset-inside, suits-other}
 use Rattle.table.proofs.Suits.{entry-suits}
 use Rattle.held.specs.Held.{heldAnswer}
 use Rattle.held.specs.Questions.{heldQuestions}
@@ -44,34 +45,27 @@ use Rattle.sheet.proofs.ReadTheorems.{read-passes}
 record Command (n letter offset : ℕ) : Type 0 where
   bytes : vertexCommand (entryOf n) ≡ letter ∷ offset ∷ []
   whole : ((eqb letter 0x4B || eqb letter 0x52) && ltb 0 offset) ≡ true
-  entry : cond (eqb letter 0x52) (256 + offset) offset ≡ n
+  entry : encoded (cond (eqb letter 0x52) (Removed offset) (Kept offset)) ≡ n
 
 command-of : (n : ℕ) → suits true (entryOf n) ≡ true → (letter : ℕ) × (offset : ℕ) × Command n letter offset
-unfolding entryOf
-command-of n h = go (eqb n 0) (leb n 255) (leb 257 n && leb n 511) refl refl refl h
+command-of n h = go (entryOf n) refl
   where
-    go : (a b c : Bool) → eqb n 0 ≡ a → leb n 255 ≡ b → (leb 257 n && leb n 511) ≡ c
-        → suits true (cond a Nothing (cond b (Kept n) (cond c (Removed (n - 256)) Wrong))) ≡ true
-        → (letter : ℕ) × (offset : ℕ) × Command n letter offset
-    go true b c ea eb ec h = absurd (false≢true h)
-    go false true c ea eb ec h =
-        let some : n ≡ 0 → ⊥ = eqb-false n 0 ea in
-        (0x4B, n, record { bytes = rw (ea, eb); whole = lt-ltb 0 n (omega arith); entry = refl })
-    go false false true ea eb ec h =
-        let least : 257 ≤ n = leb-true 257 n (and-split (leb 257 n) (leb n 511) ec .0) in
-        (0x52, n - 256, record { bytes = rw (ea, eb, ec); whole = lt-ltb 0 (n - 256) (omega arith); entry = omega arith })
-    go false false false ea eb ec h = absurd (false≢true h)
+    inside : (x : Entry) → entryOf n ≡ x → 0 < offsetIn x
+    inside x e = omega (arith, ap offsetIn e, offset-inside n h .low)
 
-zero-off : (n : ℕ) → wrong false n ≡ false → n ≡ 0
-unfolding entryOf
-zero-off n h = go (eqb n 0) (leb n 255) (leb 257 n && leb n 511) refl h
-  where
-    go : (a b c : Bool) → eqb n 0 ≡ a
-        → not (suits false (cond a Nothing (cond b (Kept n) (cond c (Removed (n - 256)) Wrong)))) ≡ false → n ≡ 0
-    go true b c ea h = eqb-true n 0 ea
-    go false true c ea h = absurd (false≢true (sym h))
-    go false false true ea h = absurd (false≢true (sym h))
-    go false false false ea h = absurd (false≢true (sym h))
+    back : (x : Entry) → entryOf n ≡ x → encoded x ≡ n
+    back x e = sym (ap encoded e) ∙ encoded-entry n true h
+
+    go : (x : Entry) → entryOf n ≡ x → (letter : ℕ) × (offset : ℕ) × Command n letter offset
+    go Nothing e = absurd (false≢true (sym (ap (suits true) e) ∙ h))
+    go (Kept o) e = (0x4B, o, record { bytes = ap vertexCommand e; whole = lt-ltb 0 o (inside (Kept o) e); entry = back (Kept o) e })
+    go (Removed o) e = (0x52, o, record { bytes = ap vertexCommand e; whole = lt-ltb 0 o (inside (Removed o) e); entry = back (Removed o) e })
+    go Wrong e = absurd (false≢true (sym (ap (suits true) e) ∙ h))
+
+zero-off : (n : ℕ) → wrong false n ≡ false → n ≡ encoded Nothing
+zero-off n h =
+    let s = not-false _ h in
+    sym (encoded-entry n false s) ∙ ap encoded (suits-other (entryOf n) s)
 
 -- The bytes that writing puts where commands are expected
 
@@ -206,10 +200,10 @@ module _ (L : Layer) (sound : Sound L) (t : List ℕ) (exact : length t ≡ edge
         occurrences-append (walkOf L) d (sticksIn pre) (y ∷ sticksIn post),
       )) in
       let place : widths pre ≡ length p = sym (bytes-length pre before) in
-      let given : entryFrom (p ++ (a ∷ o ∷ r)) (length p) ≡ getD t (number (L .size) y) 0 =
+      let given : encoded (entryFrom (p ++ (a ∷ o ∷ r)) (length p)) ≡ getD t (number (L .size) y) 0 =
       rw (getD-append-seam p a (o ∷ r) 0, second-after p r a o) (c .2 .entry) in
       described-here L (sheetOf L t) sound y pre post (at .2)
-      ∙ (λ i. entryFrom (is i) (place i))
+      ∙ (λ i. encoded (entryFrom (is i) (place i)))
       ∙ given
 
   off-zero : (k : ℕ) → k < edgeCount (L .size) → stickAt L k ≡ false → getD t k 0 ≡ 0
@@ -293,7 +287,7 @@ module _ (s : List ℕ) where
         let wide : widths (pre ++ (vertexOf e ∷ [])) ≡ i + 2 = omega (arith, widths-append pre (vertexOf e ∷ [])) in
         let z : i + 1 + 1 ≡ i + 2 = omega arith in
         let here : vertexCommand (entryAt L (described L s) e) ≡ getD s i 0 ∷ getD s (i + 1) 0 ∷ [] =
-        ap (λ (n : ℕ). vertexCommand (entryOf n)) (described-here L s sound e pre xs joined ∙ ap (entryFrom s) at)
+        ap (λ (n : ℕ). vertexCommand (entryOf n)) (described-here L s sound e pre xs joined ∙ ap (λ (k : ℕ). encoded (entryFrom s k)) at)
         ∙ command-back (getD s i 0) (getD s (i + 1) 0) _ (vertex-says (getD s i 0) (getD s (i + 1) 0) (c .0) (bytes (i + 1))) in
         let left : drop i s ≡ getD s i 0 ∷ getD s (i + 1) 0 ∷ drop (i + 2) s =
         drop-at i 0 (omega arith)

@@ -15,6 +15,7 @@ use Rattle.grid.specs.declared.question.Answer.the-variants.{No}
 use Rattle.contour.specs.Walk.{ahead}
 use Rattle.contour.specs.Contours.{walkOf, contourOf}
 use Rattle.held.specs.Held.{heldAnswer}
+use Rattle.table.specs.Entries.{encoded}
 use Rattle.sheet.specs.Commands.{endCommand}
 use Rattle.sheet.specs.Reading.{Expected, these, vertexOf, width, isAt, expectedContour, expectedSheet, commandsFrom, sheetAnswer, entryFrom, Reading, takeCommand, described, Outcome}
 
@@ -51,7 +52,7 @@ pub record Stands (L : Layer) (s : List ℕ) (f : Edge) (b : ℕ) : Type 0 where
   pub start-stick : isStick L f ≡ true
   pub room : b + 2 * length (contourOf L f) ≤ length s
   pub whole : (e : Edge) (i : ℕ) → Standing L f b e i → isAt s i (vertexOf e) ≡ true
-  pub entry : (e : Edge) (i : ℕ) → Standing L f b e i → getD (described L s) (number (L .size) e) 0 ≡ entryFrom s i
+  pub entry : (e : Edge) (i : ℕ) → Standing L f b e i → getD (described L s) (number (L .size) e) 0 ≡ encoded (entryFrom s i)
 
 -- reading partway, at place i with the table t so far
 abbrev pub readingAt : ℕ → List ℕ → Reading

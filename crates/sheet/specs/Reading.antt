@@ -4,17 +4,20 @@ use mathlib.Core.Bool.{Bool, true, cond, _&&_, _||_}
 use mathlib.Core.List.{List, [], _∷_, _++_, map, flatten, foldl}
 use Prim.Native.Nat.{ℕ, _+_}
 use lib.Dec.{eqb, ltb}
-use lib.ListN.{length, getD, set}
+use lib.ListN.{length, getD}
 use Rattle.arith.specs.Ranges.{tabulate}
 use Rattle.grid.specs.Layer.{Layer}
-use Rattle.grid.specs.Edges.{number, edgeCount}
+use Rattle.grid.specs.Edges.{edgeCount}
 use Rattle.grid.specs.Questions.{firstNo, ifAllYes, numberOf}
 use Rattle.grid.specs.declared.edge.Edge.{Edge}
 use Rattle.grid.specs.declared.question.Refusal.the-variants.{Malformed}
 use Rattle.grid.specs.declared.question.Answer.{Answer}
 use Rattle.grid.specs.declared.question.Answer.the-variants.{Yes, No}
 use Rattle.contour.specs.Contours.{contourOf, firstSticks}
-use Rattle.table.specs.Entries.{lengthQuestions}
+use Rattle.table.specs.Entries.{encoded, lengthQuestions}
+use Rattle.table.specs.Stores.{store}
+use Rattle.table.specs.declared.entry.Entry.{Entry}
+use Rattle.table.specs.declared.entry.Entry.the-variants.{Nothing, Kept, Removed}
 use Rattle.held.specs.Held.{heldAnswer}
 use Rattle.sheet.specs.Commands.{sizeCommand, contourCommand, endCommand}
 use Rattle.sheet.specs.declared.read.SheetRead.{SheetRead}
@@ -60,9 +63,9 @@ commandsFrom s i (x ∷ later) = cond (isAt s i x) (commandsFrom s (i + width x)
 unfoldable pub sheetAnswer : Layer → List ℕ → Answer
 sheetAnswer L s = commandsFrom s 0 (expectedSheet L)
 
--- the entry that the vertex command at i gives its stick
-abbrev pub entryFrom : List ℕ → ℕ → ℕ
-entryFrom s i = cond (eqb (getD s i 0) 0x52) (256 + getD s (i + 1) 0) (getD s (i + 1) 0)
+-- the entry that the vertex command at i gives its stick: "K (hex 4B, kept) or R (hex 52, removed) and its offset byte"
+abbrev pub entryFrom : List ℕ → ℕ → Entry
+entryFrom s i = cond (eqb (getD s i 0) 0x52) (Removed (getD s (i + 1) 0)) (Kept (getD s (i + 1) 0))
 
 -- reading partway: the place of the next command, and the table so far
 pub record Reading : Type 0 where
@@ -72,11 +75,11 @@ pub record Reading : Type 0 where
 abbrev pub takeCommand : Layer → List ℕ → Reading → Expected → Reading
 takeCommand L s r (these bytes) = record { at = r .at + length bytes; table = r .table }
 takeCommand L s r (vertexOf e) =
-    record { at = r .at + 2; table = set (r .table) (number (L .size) e) (entryFrom s (r .at)) }
+    record { at = r .at + 2; table = store (L .size) (r .table) e (entryFrom s (r .at)) }
 
--- the table of the layer that a well-formed sheet describes: 0 off sticks
+-- the table of the layer that a well-formed sheet describes: no entries off sticks
 abbrev pub noEntries : Layer → List ℕ
-noEntries L = tabulate (λ k. 0) (edgeCount (L .size))
+noEntries L = tabulate (λ k. encoded Nothing) (edgeCount (L .size))
 
 unfoldable pub described : Layer → List ℕ → List ℕ
 described L s = foldl (takeCommand L s) (record { at = 0; table = noEntries L }) (expectedSheet L) .table

@@ -5,8 +5,8 @@ use super::command::VERTEX_BYTES;
 use super::command::kind_of;
 use grid::Edge;
 use grid::Size;
+use table::Entry;
 ghost use mathlib.Core.Path.{_≡_};
-ghost use mathlib.Core.Bool.{cond};
 ghost use Prim.Native.Nat.{_+_, _≤_, _<_};
 ghost use lib.ListN.{length};
 ghost use Rattle.sheet.specs.Commands.{bytesOf, sizeCommand, contourCommand, endCommand};
@@ -93,21 +93,15 @@ pub fn has_end(sheet: &[u8], i: usize) -> bool
     sheet[i] == b'E'
 }
 
-// "256 plus the offset for a removed vertex".
-fn entry_of_offset(offset: u8, removed: bool) -> u16
-    ensures { λ r. ⌜ r ≡ cond removed (256 + offset) offset ⌝ }
-{
-    if removed {
-        256 + (offset as u16)
-    } else {
-        offset as u16
-    }
-}
-
 // The entry that the vertex command at i gives its stick.
-pub fn entry_from(sheet: &[u8], i: usize) -> u16
+pub fn entry_from(sheet: &[u8], i: usize) -> Entry
     requires { ⌜ i + 2 ≤ length (now sheet) ⌝ }
     ensures { λ r. ⌜ r ≡ entryFrom (now (sheet .entry)) i ⌝ }
 {
-    entry_of_offset(sheet[i + 1], sheet[i] == b'R')
+    let offset = sheet[i + 1];
+    if sheet[i] == b'R' {
+        Entry::Removed(offset)
+    } else {
+        Entry::Kept(offset)
+    }
 }

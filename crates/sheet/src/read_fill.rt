@@ -9,7 +9,6 @@ use contour::same_edge;
 use grid::Edge;
 use grid::Size;
 use grid::edge_at;
-use grid::number_of;
 use step::next_stick;
 ghost use mathlib.Core.Path.{_≡_};
 ghost use mathlib.Core.Bool.{true};
@@ -54,8 +53,7 @@ fn store_vertices(
     let mut e = first;
     let mut at = i;
     loop {
-        let n = number_of(size, e);
-        table[n] = entry_from(sheet, at);
+        table::store(size, table, e, entry_from(sheet, at));
         at += VERTEX_BYTES;
         e = next_stick(size, bitmap, e);
         if same_edge(e, first) {

@@ -24,11 +24,12 @@ use Rattle.contour.proofs.Sticks.{laws}
 use Rattle.chord.specs.Crossing.{crosses}
 use Rattle.table.specs.Entries.{entriesAnswer}
 use Rattle.table.specs.Vertices.{removedAt}
+use Rattle.table.specs.Stores.{without}
 use Rattle.drawn.specs.Drawn.{vertex}
 use Rattle.drawn.proofs.Vertices.{vertices-of, kept-of}
 use Rattle.drawn.proofs.Stores.{removal-vertex, removal-more, removal-entries, removal-length}
 use Rattle.drawn.proofs.FourKept.{four-sticks}
-use Rattle.simplify.specs.Runs.{stickAfter, following, passes, chordPasses, Progress, removeVertex, half, oneTried, tryRun, simplifyContour}
+use Rattle.simplify.specs.Runs.{stickAfter, following, passes, chordPasses, Progress, half, oneTried, tryRun, simplifyContour}
 use Rattle.simplify.proofs.Trying.{Split, split, split-of, try-passes, try-splits, inner-is, contour-runs}
 
 -- a table of a sound layer that passes questions 5 and 6
@@ -120,7 +121,7 @@ module _ (L : Layer) (sound : Sound L) where
   remove-following : (k : ℕ) (e : Edge) (t : List ℕ) → Sane L t → isStick L e ≡ true
       → ((j : ℕ) → 0 < j → j ≤ k → removedAt L t (stickAfter L j e) ≡ false)
       → ((i j : ℕ) → 0 < i → i < j → j ≤ k → stickAfter L i e ≢ stickAfter L j e)
-      → let t′ : List ℕ = foldl (removeVertex L) t (following L k e) in
+      → let t′ : List ℕ = foldl (without L) t (following L k e) in
       Thins L t t′ e (suc k) × ((j : ℕ) → 0 < j → j ≤ k → removedAt L t′ (stickAfter L j e) ≡ true)
   unfolding ahead
   remove-following zero e t sane stick kept apart =
@@ -132,15 +133,15 @@ module _ (L : Layer) (sound : Sound L) where
       let drawn = kept-of L t sound vertices u at-u (kept 1 (omega arith) (omega arith)) in
       let more = removal-more L sound t (sane .exact) u drawn vertices in
       let moved = removal-vertex L sound t (sane .exact) u drawn vertices in
-      let sane′ : Sane L (removeVertex L t u) = record {
+      let sane′ : Sane L (without L t u) = record {
         exact = removal-length L sound t (sane .exact) u drawn vertices;
         entries = removal-entries L sound t (sane .exact) u drawn vertices (sane .entries);
       } in
       let new : (j : ℕ) → 0 < j → j ≤ k → stickAfter L j u ≢ u = λ j a b q. apart 1 (suc j) (omega arith) (omega arith) (omega arith) (sym q) in
-      let later = remove-following k u (removeVertex L t u) sane′ at-u
+      let later = remove-following k u (without L t u) sane′ at-u
       (λ j a b. more .others (stickAfter L j u) (step-stick j u at-u) (new j a b) ∙ kept (suc j) (omega arith) (omega arith))
       (λ i j a b c. apart (suc i) (suc j) (omega arith) (omega arith) (omega arith)) in
-      let first : removedAt L (foldl (removeVertex L) (removeVertex L t u) (following L k u)) u ≡ true =
+      let first : removedAt L (foldl (without L) (without L t u) (following L k u)) u ≡ true =
       later .0 .others u at-u (λ j a b. new j a (omega arith)) ∙ more .now-removed in (
         record {
           sane = later .0 .sane;
@@ -148,7 +149,7 @@ module _ (L : Layer) (sound : Sound L) where
           others = λ x h no. later .0 .others x h (λ j a b. no (suc j) (omega arith) (omega arith))
               ∙ more .others x h (λ q. no 1 (omega arith) (omega arith) (sym q));
         },
-        each-one k e (foldl (removeVertex L) (removeVertex L t u) (following L k u)) first (later .1),
+        each-one k e (foldl (without L) (without L t u) (following L k u)) first (later .1),
       )
     where
       each-one : (k : ℕ) (e : Edge) (t : List ℕ) → removedAt L t (next L e) ≡ true
@@ -217,10 +218,10 @@ module _ (L : Layer) (sound : Sound L) where
 
   -- one that passes
   passed : (t : List ℕ) (tolerance : ℕ) (e : Edge) (n : ℕ) → 1 ≤ n → Ready L t e n
-      → passes L t tolerance e n ≡ true → Tried t (foldl (removeVertex L) t (following L (n - 1) e)) e n
+      → passes L t tolerance e n ≡ true → Tried t (foldl (without L) t (following L (n - 1) e)) e n
   unfolding ahead
   passed t tolerance e n some ready yes-all =
-      let t′ : List ℕ = foldl (removeVertex L) t (following L (n - 1) e) in
+      let t′ : List ℕ = foldl (without L) t (following L (n - 1) e) in
       let r = remove-following (n - 1) e t (ready .sane) (ready .stick) (λ j a b. ready .kept j (omega arith))
       (λ i j a b c. ready .apart i j a (omega arith) (omega arith) (λ q. omega arith)) in
       let whole : suc (n - 1) ≡ n = omega arith in

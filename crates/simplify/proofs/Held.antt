@@ -77,7 +77,7 @@ module _ (L : Layer) (sound : Sound L) where
   thinned-start : (t : List ℕ) → AllKept L t → Thinned L t
   thinned-start t kept =
       record {
-        sane = record { exact = kept .whole; entries = passes-entries L t kept (sound .whole .sized) };
+        sane = record { exact = kept .whole; entries = passes-entries L t kept sound };
         pieces = λ p stick r. (
           1,
           omega (arith, laws L sound .number-less p stick),

@@ -29,4 +29,4 @@ module _ (L : Layer) (t : List ℕ) where
   yes-to-all e =
       let both = kept-of-yes L t e in
       let accepted = both .0 in
-      (accepted, all-kept-of L t (accepted .sound .whole .sized) (accepted .exact) (accepted .entries) (both .1))
+      (accepted, all-kept-of L t (accepted .sound) (accepted .exact) (accepted .entries) (both .1))

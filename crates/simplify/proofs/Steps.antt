@@ -16,8 +16,9 @@ use Rattle.contour.specs.Walk.{ahead}
 use Rattle.contour.specs.Contours.{walkOf, contourOf}
 use Rattle.contour.proofs.Orbit.{ahead-add, ahead-one, round}
 use Rattle.contour.proofs.Sticks.{laws}
+use Rattle.table.specs.Stores.{without}
 use Rattle.drawn.specs.Drawn.{vertex}
-use Rattle.simplify.specs.Runs.{stickAfter, following, between, chordPasses, passes, removeVertex}
+use Rattle.simplify.specs.Runs.{stickAfter, following, between, chordPasses, passes}
 
 module _ (L : Layer) where
   pub stick-none : (n : ℕ) (e : Edge) → n ≤ 0 → stickAfter L n e ≡ e
@@ -63,12 +64,12 @@ module _ (L : Layer) where
         ap (each f) (between-more n e e′ h step) ∙ ap (λ (b : Bool). b && each f (between L e′ (n - 1))) yes-here
 
   -- the removal of all of them
-  pub inner-none : (n : ℕ) (e : Edge) (t : List ℕ) → n ≤ 1 → foldl (removeVertex L) t (between L e n) ≡ t
-  inner-none n e t h = ap (foldl (removeVertex L) t) (between-none n e h)
+  pub inner-none : (n : ℕ) (e : Edge) (t : List ℕ) → n ≤ 1 → foldl (without L) t (between L e n) ≡ t
+  inner-none n e t h = ap (foldl (without L) t) (between-none n e h)
 
   pub inner-more : (n : ℕ) (e e′ : Edge) (t : List ℕ) → 1 < n → e′ ≡ next L e
-      → foldl (removeVertex L) t (between L e n) ≡ foldl (removeVertex L) (removeVertex L t e′) (between L e′ (n - 1))
-  inner-more n e e′ t h step = ap (foldl (removeVertex L) t) (between-more n e e′ h step)
+      → foldl (without L) t (between L e n) ≡ foldl (without L) (without L t e′) (between L e′ (n - 1))
+  inner-more n e e′ t h step = ap (foldl (without L) t) (between-more n e e′ h step)
 
   -- whether a run passes: the test of all sticks between, by the vertices at its ends
   pub passes-is : (t : List ℕ) (tolerance : ℕ) (e end : Edge) (n : ℕ) → end ≡ stickAfter L n e

@@ -6,15 +6,17 @@ use mathlib.Core.List.{List, [], _∷_, foldl}
 use Prim.Native.Nat.{ℕ, zero, suc, _+_, _-_, _*_, _≤_, _<_}
 use native.Mathlib.Decide.{decLe}
 use native.Mathlib.Omega.{arith}
-use lib.ListN.{length, length-set}
+use lib.ListN.{length}
 use Rattle.arith.specs.Booleans.{both-sides}
 use Rattle.grid.specs.Layer.{Layer}
-use Rattle.grid.specs.Edges.{number}
 use Rattle.grid.specs.declared.edge.Edge.{Edge}
 use Rattle.contour.specs.Contours.{walkOf, contourOf}
 use Rattle.contour.proofs.Orbit.{ahead-add}
 use Rattle.table.specs.Vertices.{offsetAt}
-use Rattle.simplify.specs.Runs.{stickAfter, between, passes, Progress, removeVertex, removeInner, half, oneTried, tryRun, simplifyContour}
+use Rattle.table.specs.Stores.{without}
+use Rattle.table.specs.declared.entry.Entry.the-variants.{Removed}
+use Rattle.table.proofs.Stores.{store-length}
+use Rattle.simplify.specs.Runs.{stickAfter, between, passes, Progress, removeInner, half, oneTried, tryRun, simplifyContour}
 use Rattle.simplify.specs.Parts.{begun}
 use Rattle.simplify.proofs.Steps.{each-none}
 
@@ -22,13 +24,13 @@ use Rattle.simplify.proofs.Steps.{each-none}
 abbrev pub onTop : Progress → Progress → Progress
 onTop s p = record { table = p .table; removed = s .removed + p .removed; tried = s .tried + p .tried }
 
-pub length-inner : (L : Layer) (l : List Edge) (t : List ℕ) → length (foldl (removeVertex L) t l) ≡ length t
+pub length-inner : (L : Layer) (l : List Edge) (t : List ℕ) → length (foldl (without L) t l) ≡ length t
 length-inner L [] t = refl
 length-inner L (e ∷ l) t =
-    length-inner L l (removeVertex L t e) ∙ length-set t (number (L .size) e) (256 + offsetAt L t e)
+    length-inner L l (without L t e) ∙ store-length L t e (Removed (offsetAt L t e))
 
 pub inner-is : (L : Layer) (s : Progress) (e : Edge) (n : ℕ) → removeInner L s e n
-    ≡ record { table = foldl (removeVertex L) (s .table) (between L e n); removed = s .removed + (n - 1); tried = s .tried }
+    ≡ record { table = foldl (without L) (s .table) (between L e n); removed = s .removed + (n - 1); tried = s .tried }
 unfolding removeInner
 inner-is L s e n = refl
 
@@ -132,7 +134,7 @@ module _ (L : Layer) (tolerance : ℕ) where
 
       counted : removeInner L (oneTried s) e n ≡ onTop s (removeInner L (oneTried (begun (s .table))) e n)
       counted = λ i. record {
-        table = foldl (removeVertex L) (s .table) (between L e n);
+        table = foldl (without L) (s .table) (between L e n);
         removed = one-more (s .removed) (n - 1) i;
         tried = one-more (s .tried) 1 i;
       }
@@ -211,11 +213,11 @@ module _ (L : Layer) (tolerance : ℕ) where
 
   -- a run that passes, and one that is split
   pub run-passed : (t : List ℕ) (e : Edge) (n : ℕ) → 1 ≤ n → passes L t tolerance e n ≡ true
-      → record { table = foldl (removeVertex L) t (between L e n); removed = n - 1; tried = 1 } ≡ tryRun L tolerance n (begun t) e n
+      → record { table = foldl (without L) t (between L e n); removed = n - 1; tried = 1 } ≡ tryRun L tolerance n (begun t) e n
   unfolding removeInner
   run-passed t e n some h =
       let depth : suc (n - 1) ≡ n = omega arith in
-      (λ i. record { table = foldl (removeVertex L) t (between L e n); removed = zero-more (n - 1) i; tried = zero-more 1 i })
+      (λ i. record { table = foldl (without L) t (between L e n); removed = zero-more (n - 1) i; tried = zero-more 1 i })
       ∙ sym (try-passes (n - 1) (begun t) e n h)
       ∙ ap (λ (d : ℕ). tryRun L tolerance d (begun t) e n) depth
     where

@@ -3,10 +3,9 @@
 use mathlib.Core.Bool.{Bool, true, false, _&&_}
 use mathlib.Core.List.{List, [], _∷_, foldl}
 use Prim.Native.Nat.{ℕ, zero, suc, _+_, _-_, _/_}
-use lib.ListN.{length, set}
+use lib.ListN.{length}
 use Rattle.arith.specs.Lists.{each}
 use Rattle.grid.specs.Layer.{Layer}
-use Rattle.grid.specs.Edges.{number}
 use Rattle.grid.specs.declared.edge.Edge.{Edge}
 use Rattle.step.specs.Walk.{next}
 use Rattle.contour.specs.Walk.{ahead}
@@ -14,6 +13,7 @@ use Rattle.contour.specs.Contours.{walkOf, contourOf, firstSticks}
 use Rattle.chord.specs.Points.{Position}
 use Rattle.chord.specs.Crossing.{crosses, slidesWithin}
 use Rattle.table.specs.Vertices.{offsetAt}
+use Rattle.table.specs.Stores.{without}
 use Rattle.drawn.specs.Drawn.{vertex}
 
 -- the stick n steps on from e
@@ -44,15 +44,11 @@ pub record Progress : Type 0 where
   pub removed : ℕ
   pub tried : ℕ
 
--- a vertex is removed: its entry is "256 plus the offset"
-abbrev pub removeVertex : Layer → List ℕ → Edge → List ℕ
-removeVertex L t e = set t (number (L .size) e) (256 + offsetAt L t e)
-
 -- "Inner vertices of a passing run are removed."
 unfoldable pub removeInner : Layer → Progress → Edge → ℕ → Progress
 removeInner L s e n =
     record {
-      table = foldl (removeVertex L) (s .table) (between L e n);
+      table = foldl (without L) (s .table) (between L e n);
       removed = s .removed + (n - 1);
       tried = s .tried;
     }

@@ -5,20 +5,19 @@ use chord::slides_within;
 use drawn::vertex_at;
 use grid::Edge;
 use grid::Size;
-use grid::number_of;
 use step::next_stick;
 use table::entry_at;
 use table::offset_in;
 ghost use mathlib.Core.Path.{_≡_};
 ghost use mathlib.Core.Bool.{true};
 ghost use mathlib.Core.List.{foldl};
-ghost use Prim.Native.Nat.{_≤_};
 ghost use lib.ListN.{length};
 ghost use Rattle.grid.specs.Layer.{layerOf};
 ghost use Rattle.grid.specs.Edges.{isStick, edgeCount};
 ghost use Rattle.grid.specs.Questions.{Sound};
 ghost use Rattle.chord.specs.Runs.{Near};
-ghost use Rattle.simplify.specs.Runs.{stickAfter, between, chordPasses, passes, removeVertex, half};
+ghost use Rattle.table.specs.Stores.{without};
+ghost use Rattle.simplify.specs.Runs.{stickAfter, between, chordPasses, passes, half};
 
 // How many vertices were removed, and how many runs tried.
 pub struct RunCounts {
@@ -101,37 +100,18 @@ pub fn passes_run(
     true
 }
 
-fn widen(x: u8) -> u16
-    ensures { λ r. ⌜ r ≡ x ⌝ }
-    ensures { λ r. ⌜ r ≤ 255 ⌝ }
-{
-    x as u16
-}
-
-// Removes the vertex of a stick: its entry is 256 plus the offset.
-fn remove_vertex(size: Size, bitmap: &[u8], table: &mut [u16], e: Edge)
-    requires { ⌜ Sound (layerOf size (now bitmap)) ⌝ }
-    requires { ⌜ length (now table) ≡ edgeCount size ⌝ }
-    requires { ⌜ isStick (layerOf size (now bitmap)) e ≡ true ⌝ }
-    ensures { λ r. ⌜ now (table .exit) ≡ removeVertex (layerOf size (now (bitmap .entry))) (now (table .entry)) e ⌝ }
-{
-    let offset = widen(offset_in(entry_at(size, table, e)));
-    let n = number_of(size, e);
-    table[n] = 256 + offset;
-}
-
 // Removes the inner vertices of a run of n edges from stick e.
 pub fn remove_inner(size: Size, bitmap: &[u8], table: &mut [u16], e: Edge, n: usize)
     requires { ⌜ Sound (layerOf size (now bitmap)) ⌝ }
     requires { ⌜ length (now table) ≡ edgeCount size ⌝ }
     requires { ⌜ isStick (layerOf size (now bitmap)) e ≡ true ⌝ }
-    ensures { λ r. ⌜ now (table .exit) ≡ foldl (removeVertex (layerOf size (now (bitmap .entry)))) (now (table .entry)) (between (layerOf size (now (bitmap .entry))) e n) ⌝ }
+    ensures { λ r. ⌜ now (table .exit) ≡ foldl (without (layerOf size (now (bitmap .entry)))) (now (table .entry)) (between (layerOf size (now (bitmap .entry))) e n) ⌝ }
 {
     let mut at = e;
     let mut left = n;
     while 1 < left {
         at = next_stick(size, bitmap, at);
-        remove_vertex(size, bitmap, table, at);
+        table::remove(size, table, at);
         left -= 1;
     }
 }

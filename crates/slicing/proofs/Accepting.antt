@@ -59,7 +59,7 @@ module _ (L : Layer) (t : List ℕ) (done : traceOf L t .refusal ≡ 0) where
   traced-accepted = let kept = trace-kept L t done in all-kept-accepted L (traceOf L t .table) (kept .0) (kept .1)
 
   traced-kept : allKeptAnswer (L .size) (traceOf L t .table) ≡ Yes
-  traced-kept = let kept = trace-kept L t done in passes-all-kept L (traceOf L t .table) (kept .1) (kept .0 .whole .sized)
+  traced-kept = let kept = trace-kept L t done in passes-all-kept L (traceOf L t .table) (kept .1) (kept .0)
 
   traced-yes : firstNo (keptQuestions L (traceOf L t .table)) ≡ Yes
   traced-yes = kept-yes (traceOf L t .table) traced-accepted traced-kept

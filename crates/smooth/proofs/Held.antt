@@ -43,7 +43,7 @@ smooth-held L limit t e =
     let ready = ready-of L t e in
     let kept = smooth-kept L (ready .sound) limit t (ready-kept L t ready) in
     rw (outcome-is L limit t Yes e)
-    (all-kept-accepted L (smooth L limit t .table) (ready .sound) kept, passes-all-kept L (smooth L limit t .table) kept (ready .sound .whole .sized))
+    (all-kept-accepted L (smooth L limit t .table) (ready .sound) kept, passes-all-kept L (smooth L limit t .table) kept (ready .sound))
 
 -- and after a refusal the table is as found: whatever the answer is, an accepted table stays one
 pub smooth-keeps : (L : Layer) (limit : ℕ) (t : List ℕ) → Accepted L t → Accepted L (smoothOf L limit t .table)

@@ -24,10 +24,14 @@ use Rattle.contour.proofs.First.{first-one}
 use Rattle.contour.proofs.Sticks.{laws, stick-in}
 use Rattle.contour.proofs.Theorems.{on-no-other}
 use Rattle.table.specs.Vertices.{offsetIn, offsetAt}
-use Rattle.table.specs.Entries.{entryOf}
+use Rattle.table.specs.Entries.{entryOf, encoded}
+use Rattle.table.specs.declared.entry.Entry.the-variants.{Kept}
 use Rattle.smooth.specs.Smooth.{smoothedAt, Pass, visit, passContour}
-use Rattle.table.proofs.AllKept.{entry}
 use Rattle.smooth.proofs.Steps.{visit-table, visit-sum, visit-elsewhere, visit-length}
+
+-- the number that the table has for an edge
+abbrev pub entry : Layer → List ℕ → Edge → ℕ
+entry L t e = getD t (number (L .size) e) 0
 
 module _ (L : Layer) (sound : Sound L) where
   -- ---- what a pass over a list of sticks changes
@@ -84,10 +88,10 @@ module _ (L : Layer) (sound : Sound L) where
       below : number (L .size) e < edgeCount (L .size)
       below = number-below (L .size) (sound .whole .sized) e (stick-in L e (on-one (walkOf L) (laws L sound) f e stick on))
 
-      stored : (p : Pass) → length (p .table) ≡ edgeCount (L .size) → getD (visit L p e .table) (number (L .size) e) 0 ≡ smoothedAt L (p .table) e
+      stored : (p : Pass) → length (p .table) ≡ edgeCount (L .size) → entry L (visit L p e .table) e ≡ encoded (Kept (smoothedAt L (p .table) e))
       stored p w =
           ap (λ (t : List ℕ). entry L t e) (visit-table L p e)
-          ∙ getD-set-same (p .table) (number (L .size) e) (smoothedAt L (p .table) e) 0 (omega (arith, below))
+          ∙ getD-set-same (p .table) (number (L .size) e) (encoded (Kept (smoothedAt L (p .table) e))) 0 (omega (arith, below))
 
       visit-agree : Agree (visit L s e .table) (visit L r e .table)
       visit-agree =
@@ -97,7 +101,7 @@ module _ (L : Layer) (sound : Sound L) where
             same-entry = λ g o. elim (ℕ-discrete (number (L .size) g) (number (L .size) e)) [
               | yes q ↦
                   ap (λ (k : ℕ). getD (visit L s e .table) k 0) q
-                  ∙ stored s (a .whole₁) ∙ same-smoothed a e on ∙ sym (stored r (a .whole₂))
+                  ∙ stored s (a .whole₁) ∙ ap (λ (o : ℕ). encoded (Kept o)) (same-smoothed a e on) ∙ sym (stored r (a .whole₂))
                   ∙ sym (ap (λ (k : ℕ). getD (visit L r e .table) k 0) q)
               | no n ↦
                   visit-elsewhere L s e (number (L .size) g) n ∙ a .same-entry g o ∙ sym (visit-elsewhere L r e (number (L .size) g) n)

@@ -10,7 +10,7 @@ use Rattle.grid.specs.declared.edge.Edge.{Edge}
 use Rattle.chord.specs.Points.{Position}
 use Rattle.chord.specs.Crossing.{along, base, meeting, total}
 use Rattle.chord.proofs.Meetings.{sides→parted, total-some}
-use Rattle.table.proofs.AllKept.{Inside}
+use Rattle.table.proofs.Entries.{Inside}
 use Rattle.smooth.specs.Offset.{rounded, spread, shift, upon, newOffset, Apart, Around}
 use Rattle.smooth.proofs.Rounding.{rounded-inside}
 use Rattle.smooth.proofs.Meeting.{spread-is, shift-is, meeting-inside}

@@ -25,8 +25,8 @@ kept-ready L sound t kept =
     record {
       sound = sound;
       whole = kept .whole;
-      entries = passes-entries L t kept (sound .whole .sized);
-      all-kept = passes-all-kept L t kept (sound .whole .sized);
+      entries = passes-entries L t kept sound;
+      all-kept = passes-all-kept L t kept sound;
     }
 
 -- a total only grows

@@ -1,27 +1,27 @@
 -- The step at one stick of a sound layer whose vertices are all kept: the segment between the neighbours meets the closed stick at a v of 0 to
 -- 256, the new offset is 1 to 255, and nothing else changes.
-use mathlib.Core.Path.{_≡_, refl, sym, subst, _∙_, ap}
+use mathlib.Core.Path.{_≡_, refl, sym, _∙_, ap}
 use mathlib.Core.Logic.{_≢_}
-use mathlib.Core.Bool.{true, true≢false, not}
+use mathlib.Core.Bool.{true, not}
 use mathlib.Core.List.{List}
-use Prim.Native.Nat.{ℕ, _+_, _*_, _≤_, _<_}
-use native.Mathlib.Decide.{ℕ-discrete}
+use Prim.Native.Nat.{ℕ, _+_, _*_, _≤_}
 use native.Mathlib.Omega.{arith}
 use lib.IntN.{pos}
-use lib.ListN.{length, getD, set, length-set}
-use lib.Seq.{getD-set-same, getD-set-other}
+use lib.ListN.{length, getD}
 use Rattle.grid.specs.Layer.{Layer}
-use Rattle.grid.specs.Edges.{number, isStick, stickAt}
+use Rattle.grid.specs.Edges.{number, isStick}
 use Rattle.grid.specs.Questions.{Sound}
 use Rattle.grid.specs.declared.edge.Edge.{Edge}
-use Rattle.grid.proofs.Numbers.{number-below, edgeAt-number}
 use Rattle.step.specs.Walk.{upward, next, prev}
 use Rattle.step.proofs.Walks.{next-stick, prev-stick}
-use Rattle.contour.proofs.Sticks.{stick-in}
 use Rattle.chord.specs.Points.{Position, Point, Meets, slide}
 use Rattle.chord.specs.Crossing.{base, distance, meeting, total}
-use Rattle.table.specs.Vertices.{offsetAt}
-use Rattle.table.proofs.AllKept.{Inside, AllKept, entry, offset-inside}
+use Rattle.table.specs.Vertices.{offsetIn, offsetAt}
+use Rattle.table.specs.Stores.{slid}
+use Rattle.table.specs.declared.entry.Entry.the-variants.{Kept}
+use Rattle.table.proofs.Entries.{Inside}
+use Rattle.table.proofs.AllKept.{AllKept, offset-inside}
+use Rattle.table.proofs.Stores.{store-elsewhere, store-length, store-here, store-all-kept}
 use Rattle.drawn.specs.Drawn.{vertex}
 use Rattle.smooth.specs.Offset.{rounded, Apart}
 use Rattle.smooth.specs.Smooth.{smoothedAt, Pass, visit}
@@ -32,7 +32,7 @@ use Rattle.smooth.proofs.Offsets.{spread-some, new-is, new-inside}
 
 -- what a step does
 module _ (L : Layer) (s : Pass) (e : Edge) where
-  pub visit-table : visit L s e .table ≡ set (s .table) (number (L .size) e) (smoothedAt L (s .table) e)
+  pub visit-table : visit L s e .table ≡ slid L (s .table) e (smoothedAt L (s .table) e)
   unfolding visit
   visit-table = refl
 
@@ -43,11 +43,11 @@ module _ (L : Layer) (s : Pass) (e : Edge) where
   -- it changes no other entry
   pub visit-elsewhere : (k : ℕ) → k ≢ number (L .size) e → getD (visit L s e .table) k 0 ≡ getD (s .table) k 0
   unfolding visit
-  visit-elsewhere k n = getD-set-other (s .table) (number (L .size) e) k (smoothedAt L (s .table) e) 0 n
+  visit-elsewhere = store-elsewhere L (s .table) e (Kept (smoothedAt L (s .table) e))
 
   pub visit-length : length (visit L s e .table) ≡ length (s .table)
   unfolding visit
-  visit-length = length-set (s .table) (number (L .size) e) (smoothedAt L (s .table) e)
+  visit-length = store-length L (s .table) e (Kept (smoothedAt L (s .table) e))
 
 module _ (L : Layer) (sound : Sound L) where
   -- the neighbours of a stick in a table whose vertices are all kept
@@ -98,28 +98,17 @@ module _ (L : Layer) (sound : Sound L) where
   -- ---- a step
 
   module _ (s : Pass) (kept : AllKept L (s .table)) (e : Edge) (stick : isStick L e ≡ true) where
-    below : number (L .size) e < length (s .table)
-    below = omega (arith, kept .whole, number-below (L .size) (sound .whole .sized) e (stick-in L e stick))
-
-    -- the stick's entry is its new offset
-    pub visit-here : entry L (visit L s e .table) e ≡ smoothedAt L (s .table) e
+    -- the stick's vertex is kept at its new offset, and all others as before
+    pub visit-here : offsetAt L (visit L s e .table) e ≡ smoothedAt L (s .table) e
+    unfolding visit offsetAt
     visit-here =
-        ap (λ (t : List ℕ). entry L t e) (visit-table L s e)
-        ∙ getD-set-same (s .table) (number (L .size) e) (smoothedAt L (s .table) e) 0 below
+        ap offsetIn
+        (store-here L sound (s .table) (kept .whole) e stick (Kept (smoothedAt L (s .table) e)) (smoothed-inside (s .table) kept e stick))
 
     pub visit-kept : AllKept L (visit L s e .table)
+    unfolding visit
     visit-kept =
-        record {
-          whole = visit-length L s e ∙ kept .whole;
-          on-sticks = λ f h. elim (ℕ-discrete (number (L .size) f) (number (L .size) e)) [
-            | yes q ↦ subst Inside (sym (ap (λ (k : ℕ). getD (visit L s e .table) k 0) q ∙ visit-here)) (smoothed-inside (s .table) kept e stick)
-            | no n ↦ subst Inside (sym (visit-elsewhere L s e (number (L .size) f) n)) (kept .on-sticks f h)
-          ];
-          elsewhere = λ k l no-stick. visit-elsewhere L s e k (λ q. true≢false (sym (there k q) ∙ no-stick)) ∙ kept .elsewhere k l no-stick;
-        }
-      where
-        there : (k : ℕ) → k ≡ number (L .size) e → stickAt L k ≡ true
-        there k q = ap (stickAt L) q ∙ ap (isStick L) (edgeAt-number (L .size) (sound .whole .sized) e (stick-in L e stick)) ∙ stick
+        store-all-kept L sound (s .table) (kept .whole) e stick (Kept (smoothedAt L (s .table) e)) (smoothed-inside (s .table) kept e stick) refl kept
 
     -- the change is at most 254
     pub visit-total : visit L s e .total ≤ s .total + 254

@@ -23,16 +23,18 @@ use Rattle.contour.proofs.Sticks.{laws, stick-in}
 use Rattle.chord.specs.Points.{Position, position}
 use Rattle.chord.specs.Crossing.{distance}
 use Rattle.chord.specs.Runs.{Near}
-use Rattle.table.specs.Entries.{entryOf}
-use Rattle.table.specs.Vertices.{offsetIn, offsetAt}
-use Rattle.table.proofs.AllKept.{Inside, AllKept, all-kept-of, offset-is, offset-inside}
+use Rattle.table.specs.Entries.{entryOf, encoded, suits}
+use Rattle.table.specs.Vertices.{offsetIn, entryAt, offsetAt}
+use Rattle.table.specs.declared.entry.Entry.the-variants.{Kept}
+use Rattle.table.proofs.Entries.{kept-suits}
+use Rattle.table.proofs.AllKept.{AllKept, all-kept-of, offset-inside}
 use Rattle.drawn.specs.Drawn.{vertex}
 use Rattle.smooth.specs.Offset.{newOffset, Around}
 use Rattle.smooth.specs.Smooth.{smoothedAt, Pass, passed, visit, passContour, Ready}
 use Rattle.smooth.proofs.Steps.{visit-sum, visit-kept, visit-here, previous-vertex, next-vertex, neighbours-apart}
 
 pub ready-kept : (L : Layer) (t : List ℕ) → Ready L t → AllKept L t
-ready-kept L t r = all-kept-of L t (r .sound .whole .sized) (r .whole) (r .entries) (r .all-kept)
+ready-kept L t r = all-kept-of L t (r .sound) (r .whole) (r .entries) (r .all-kept)
 
 -- the vertex of an edge, as `drawn::vertex_at` gives it
 pub vertex-of : (L : Layer) (t : List ℕ) (e : Edge) (p : Position) → p ≡ position e (offsetIn (entryOf (getD t (number (L .size) e) 0))) → p ≡ vertex L t e
@@ -58,6 +60,13 @@ module _ (L : Layer) (sound : Sound L) (x f : Edge) (one : isStick L x ≡ true)
   pub other-number : number (L .size) x ≢ number (L .size) f → sameEdge x f ≡ false
   other-number n = both-sides (sameEdge x f) (λ y. absurd (n (ap (number (L .size)) (laws L sound .same-eq x f y)))) (λ y. y)
 
+-- the offset that the entry at `at` gives, and the table with its vertex slid
+abbrev old : List ℕ → ℕ → ℕ
+old t at = offsetIn (entryOf (getD t at 0))
+
+abbrev moved : List ℕ → ℕ → ℕ → List ℕ
+moved t at new = set t at (encoded (Kept new))
+
 -- the walk stands at e, its entry at `at`: folding over what is left of the contour of f, from here, gives `whole`
 pub record Going (L : Layer) (f : Edge) (whole : Pass) (t : List ℕ) (e : Edge) (at : ℕ) (p : Position) (n : ℕ) : Type 0 where
   pub due : Due (walkOf L) f e
@@ -74,8 +83,12 @@ module _ (L : Layer) (sound : Sound L) (f : Edge) (whole : Pass) (t : List ℕ) 
   pub here-below : at < length t
   here-below = omega (arith, g .at-is, g .kept .whole, number-below (L .size) (sound .whole .sized) e (stick-in L e here-stick))
 
-  old-is : getD t at 0 ≡ offsetAt L t e
-  old-is = ap (λ (k : ℕ). getD t k 0) (g .at-is) ∙ sym (offset-is L t (g .kept) e here-stick)
+  pub here-suits : suits true (entryOf (getD t at 0)) ≡ true
+  here-suits = rw (g .at-is) (kept-suits (entryAt L t e) (g .kept .on-sticks e here-stick))
+
+  old-is : old t at ≡ offsetAt L t e
+  unfolding offsetAt
+  old-is = ap (old t) (g .at-is)
 
   -- the next stick, and its entry
   module _ (e′ : Edge) (step : e′ ≡ next L e) where
@@ -86,18 +99,16 @@ module _ (L : Layer) (sound : Sound L) (f : Edge) (whole : Pass) (t : List ℕ) 
       pub there-below : at′ < length t
       there-below = omega (arith, g .kept .whole, number-below (L .size) (sound .whole .sized) e′ (stick-in L e′ there-stick))
 
-      pub there-inside : Inside (getD t at′ 0)
-      there-inside = rw at′-is (g .kept .on-sticks e′ there-stick)
+      pub there-suits : suits true (entryOf (getD t at′ 0)) ≡ true
+      there-suits = rw at′-is (kept-suits (entryAt L t e′) (g .kept .on-sticks e′ there-stick))
 
       -- the next vertex
-      module _ (q : Position) (q-is : q ≡ position e′ (getD t at′ 0)) where
+      module _ (q : Position) (q-is : q ≡ position e′ (old t at′)) where
         q-vertex : q ≡ vertex L t (next L e)
-        q-vertex =
-            q-is
-            ∙ ap (position e′) (ap (λ (k : ℕ). getD t k 0) at′-is ∙ sym (offset-is L t (g .kept) e′ there-stick))
-            ∙ ap (vertex L t) step
+        unfolding offsetAt
+        q-vertex = q-is ∙ ap (λ (k : ℕ). position e′ (old t k)) at′-is ∙ ap (vertex L t) step
 
-        pub around : Around p q e (getD t at 0)
+        pub around : Around p q e (old t at)
         around =
             let b = previous-vertex L sound t (g .kept) e here-stick in
             let a = next-vertex L sound t (g .kept) e here-stick in
@@ -113,32 +124,31 @@ module _ (L : Layer) (sound : Sound L) (f : Edge) (whole : Pass) (t : List ℕ) 
             })
 
         -- the step
-        module _ (new : ℕ) (new-is : new ≡ newOffset p q e (getD t at 0)) (change : ℕ) (change-is : change ≡ distance (getD t at 0) new) where
+        module _ (new : ℕ) (new-is : new ≡ newOffset p q e (old t at)) (change : ℕ) (change-is : change ≡ distance (old t at) new) where
           smoothed : new ≡ smoothedAt L t e
           smoothed = new-is ∙ (λ i. newOffset (g .p-is i) (q-vertex i) e (old-is i))
 
-          visited : passed (set t at new) (n + change) ≡ visit L (passed t n) e
+          visited : passed (moved t at new) (n + change) ≡ visit L (passed t n) e
           unfolding visit
           visited =
               let c = change-is ∙ (λ i. distance (old-is i) (smoothed i)) in
-              λ i. passed (set t (g .at-is i) (smoothed i)) (n + c i)
+              λ i. passed (moved t (g .at-is i) (smoothed i)) (n + c i)
 
-          kept′ : AllKept L (set t at new)
+          kept′ : AllKept L (moved t at new)
           kept′ = subst (λ (s : Pass). AllKept L (s .table)) (sym visited) (visit-kept L sound (passed t n) (g .kept) e here-stick)
 
           -- the new offset is in the table
-          here-new : new ≡ offsetAt L (set t at new) e
+          here-new : new ≡ offsetAt L (moved t at new) e
           here-new =
               smoothed
               ∙ sym (visit-here L sound (passed t n) (g .kept) e here-stick)
-              ∙ sym (ap (λ (s : Pass). getD (s .table) (number (L .size) e) 0) visited)
-              ∙ sym (offset-is L (set t at new) kept′ e here-stick)
+              ∙ sym (ap (λ (s : Pass). offsetAt L (s .table) e) visited)
 
           pub total-within : n + change ≤ whole .total
           total-within = omega (arith, ap (λ (s : Pass). s .total) visited, visit-grows L f e (passed t n), ap (λ (s : Pass). s .total) (g .left))
 
           pub goes-on : (p′ : Position) → p′ ≡ position e new → Near p′ → at′ ≢ number (L .size) f
-              → Going L f whole (set t at new) e′ at′ p′ (n + change)
+              → Going L f whole (moved t at new) e′ at′ p′ (n + change)
           goes-on p′ p′-is near differ =
               let law = laws L sound in
               let apart = other-number L sound e′ f there-stick (g .due .start-one) (λ q. differ (at′-is ∙ q)) in
@@ -148,7 +158,7 @@ module _ (L : Layer) (sound : Sound L) (f : Edge) (whole : Pass) (t : List ℕ) 
                 at-is = at′-is;
                 p-is =
                     p′-is ∙ ap (position e) here-new
-                    ∙ ap (vertex L (set t at new)) (sym (ap (prev L) step ∙ prev-next L sound e here-stick));
+                    ∙ ap (vertex L (moved t at new)) (sym (ap (prev L) step ∙ prev-next L sound e here-stick));
                 p-near = near;
                 left =
                     ap (λ (s : Pass). foldl (visit L) s (rest (walkOf L) e′ f)) visited
@@ -160,7 +170,7 @@ module _ (L : Layer) (sound : Sound L) (f : Edge) (whole : Pass) (t : List ℕ) 
               shorter (walkOf L) (laws L sound) f e e′ (g .due) step
               (other-number L sound e′ f there-stick (g .due .start-one) (λ q. differ (at′-is ∙ q)))
 
-          pub goes-home : at′ ≡ number (L .size) f → passed (set t at new) (n + change) ≡ whole
+          pub goes-home : at′ ≡ number (L .size) f → passed (moved t at new) (n + change) ≡ whole
           goes-home back =
               visited
               ∙ last (walkOf L) (laws L sound) f e e′ (g .due) step

@@ -5,9 +5,9 @@ use mathlib.Core.Bool.{Bool, true, false}
 use mathlib.Core.List.{List, foldl}
 use Prim.Native.Nat.{ℕ, zero, suc, _+_, _*_}
 use lib.Dec.{eqb, ltb}
-use lib.ListN.{length, set}
+use lib.ListN.{length}
 use Rattle.grid.specs.Layer.{Layer}
-use Rattle.grid.specs.Edges.{number, edgeCount}
+use Rattle.grid.specs.Edges.{edgeCount}
 use Rattle.grid.specs.Counts.{stickCount}
 use Rattle.grid.specs.Questions.{Sound}
 use Rattle.grid.specs.declared.edge.Edge.{Edge}
@@ -18,6 +18,7 @@ use Rattle.chord.specs.Crossing.{distance}
 use Rattle.table.specs.Entries.{entriesAnswer}
 use Rattle.table.specs.Kept.{allKeptAnswer}
 use Rattle.table.specs.Vertices.{offsetAt}
+use Rattle.table.specs.Stores.{slid}
 use Rattle.drawn.specs.Drawn.{vertex}
 use Rattle.smooth.specs.Offset.{newOffset}
 
@@ -39,7 +40,7 @@ unfolding newOffset
 visit L s e =
     let old : ℕ = offsetAt L (s .table) e in
     let new : ℕ = smoothedAt L (s .table) e in
-    record { table = set (s .table) (number (L .size) e) new; total = s .total + distance old new }
+    record { table = slid L (s .table) e new; total = s .total + distance old new }
 
 -- a pass over one contour, the list of its sticks in walk order (it changes no entry of another: proofs/Locality.antt)
 unfoldable pub passContour : Layer → Pass → List Edge → Pass

@@ -12,6 +12,9 @@ use grid::kind_start;
 use grid::number_of;
 use step::next_stick;
 use step::previous_stick;
+use table::Entry;
+use table::encoded_of;
+use table::offset_of;
 ghost use mathlib.Core.Path.{_≡_};
 ghost use mathlib.Core.Bool.{true};
 ghost use Prim.Native.Nat.{_≤_, _<_};
@@ -22,6 +25,9 @@ ghost use Rattle.contour.specs.Contours.{contourOf};
 ghost use Rattle.contour.specs.Sets.{FirstSet};
 ghost use Rattle.chord.specs.Crossing.{distance};
 ghost use Rattle.chord.specs.Runs.{Near, NearEdge};
+ghost use Rattle.table.specs.Entries.{entryOf, encoded, suits};
+ghost use Rattle.table.specs.Vertices.{offsetIn};
+ghost use Rattle.table.specs.declared.entry.Entry.the-variants.{Kept};
 ghost use Rattle.smooth.specs.Offset.{newOffset, Around};
 ghost use Rattle.smooth.specs.Smooth.{passed, passContour, pass, mostTotal, Ready};
 
@@ -29,14 +35,6 @@ ghost use Rattle.smooth.specs.Smooth.{passed, passContour, pass, mostTot
 struct Moved {
     offset: u8,
     change: usize,
-}
-
-// The entry of a kept vertex is its offset.
-fn offset_of(entry: u16) -> u8
-    requires { ⌜ entry ≤ 255 ⌝ }
-    ensures { λ r. ⌜ r ≡ entry ⌝ }
-{
-    entry as u8
 }
 
 fn change_of(old: u8, new: u8) -> usize
@@ -55,14 +53,15 @@ fn visit(table: &mut [u16], at: usize, e: Edge, p: Position, q: Position) -> Mov
     requires { ⌜ Near p ⌝ }
     requires { ⌜ Near q ⌝ }
     requires { ⌜ NearEdge e ⌝ }
-    requires { ⌜ Around p q e (getD (now table) at 0) ⌝ }
-    ensures { λ r. ⌜ r .offset ≡ newOffset p q e (getD (now (table .entry)) at 0) ⌝ }
-    ensures { λ r. ⌜ r .change ≡ distance (getD (now (table .entry)) at 0) (r .offset) ⌝ }
-    ensures { λ r. ⌜ now (table .exit) ≡ set (now (table .entry)) at (r .offset) ⌝ }
+    requires { ⌜ suits true (entryOf (getD (now table) at 0)) ≡ true ⌝ }
+    requires { ⌜ Around p q e (offsetIn (entryOf (getD (now table) at 0))) ⌝ }
+    ensures { λ r. ⌜ r .offset ≡ newOffset p q e (offsetIn (entryOf (getD (now (table .entry)) at 0))) ⌝ }
+    ensures { λ r. ⌜ r .change ≡ distance (offsetIn (entryOf (getD (now (table .entry)) at 0))) (r .offset) ⌝ }
+    ensures { λ r. ⌜ now (table .exit) ≡ set (now (table .entry)) at (encoded (Kept (r .offset))) ⌝ }
 {
     let old = offset_of(table[at]);
     let new = new_offset(p, q, e, old);
-    table[at] = new as u16;
+    table[at] = encoded_of(Entry::Kept(new));
     Moved {
         offset: new,
         change: change_of(old, new),

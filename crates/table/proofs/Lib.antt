@@ -2,4 +2,6 @@
 pub mod Runs
 pub mod Lengths
 pub mod Suits
+pub mod Entries
 pub mod AllKept
+pub mod Stores

@@ -21,6 +21,13 @@ entryOf n =
     (cond (leb 257 n && leb n 511) (Removed (n - 256))
     Wrong))
 
+-- the number of an entry, the other way round; that of a wrong one is 256, which no entry may have. A vertex has an offset of 1 to 255.
+abbrev pub encoded : Entry → ℕ
+encoded Nothing = 0
+encoded (Kept offset) = offset
+encoded (Removed offset) = 256 + offset
+encoded Wrong = 256
+
 -- "0 off sticks, and 1 to 255 or 257 to 511 on them"
 abbrev pub suits : Bool → Entry → Bool
 suits stick Nothing = not stick

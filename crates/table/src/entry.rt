@@ -1,6 +1,8 @@
-// An entry of the hold table taken apart.
+// An entry of the hold table taken apart, and its number.
 ghost use mathlib.Core.Path.{_≡_};
-ghost use Rattle.table.specs.Entries.{entryOf, wrong};
+ghost use mathlib.Core.Bool.{true};
+ghost use Rattle.table.specs.Entries.{entryOf, encoded, suits, wrong};
+ghost use Rattle.table.specs.Vertices.{offsetIn};
 
 // What an entry says of its edge: no stick, a vertex at an offset, kept or removed, or a number that no entry may have.
 pub enum Entry {
@@ -26,6 +28,26 @@ pub fn entry_of(n: u16) -> Entry
         return Entry::Removed((n % 256) as u8);
     }
     Entry::Wrong
+}
+
+// The number of an entry.
+pub fn encoded_of(entry: Entry) -> u16
+    ensures { λ r. ⌜ r ≡ encoded entry ⌝ }
+{
+    match entry {
+        Entry::Nothing => 0,
+        Entry::Kept(offset) => offset as u16,
+        Entry::Removed(offset) => 256 + offset as u16,
+        Entry::Wrong => 256,
+    }
+}
+
+// The offset in an entry that carries a vertex: the low byte of its number.
+pub fn offset_of(n: u16) -> u8
+    requires { ⌜ suits true (entryOf n) ≡ true ⌝ }
+    ensures { λ r. ⌜ r ≡ offsetIn (entryOf n) ⌝ }
+{
+    (n % 256) as u8
 }
 
 // Whether an entry is wrong for its edge.

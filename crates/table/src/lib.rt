@@ -1,10 +1,12 @@
-// The hold table: an entry taken apart, and questions 5, 6 and 15.
+// The hold table: an entry taken apart and stored, and questions 5, 6 and 15.
 mod entry;
 mod question;
 mod vertex;
 
 pub use entry::Entry;
+pub use entry::encoded_of;
 pub use entry::entry_of;
+pub use entry::offset_of;
 pub use question::ask_all_kept;
 pub use question::ask_entries;
 pub use question::ask_lengths;
@@ -12,3 +14,5 @@ pub use vertex::entry_at;
 pub use vertex::is_kept;
 pub use vertex::is_removed;
 pub use vertex::offset_in;
+pub use vertex::remove;
+pub use vertex::store;

@@ -1,5 +1,7 @@
-// What the table says of an edge: its entry, whether that is a kept or a removed vertex, and the vertex's offset.
+// What the table says of an edge: its entry, whether that is a kept or a removed vertex, and the vertex's offset; and what the calls
+// store: an entry, and a vertex removed.
 use super::entry::Entry;
+use super::entry::encoded_of;
 use super::entry::entry_of;
 use grid::Edge;
 use grid::Size;
@@ -11,6 +13,8 @@ ghost use Rattle.grid.specs.Edges.{inGrid, number, edgeCount};
 ghost use Rattle.grid.specs.Questions.{Sized};
 ghost use Rattle.table.specs.Entries.{entryOf};
 ghost use Rattle.table.specs.Vertices.{isKept, isRemoved, offsetIn};
+ghost use Rattle.table.specs.Stores.{store};
+ghost use Rattle.table.specs.declared.entry.Entry.the-variants.{Removed};
 
 pub fn entry_at(size: Size, table: &[u16], e: Edge) -> Entry
     requires { ⌜ Sized size ⌝ }
@@ -53,4 +57,26 @@ pub fn offset_in(entry: Entry) -> u8
         Entry::Removed(offset) => offset,
         Entry::Wrong => 0,
     }
+}
+
+// Stores an entry.
+pub fn store(size: Size, table: &mut [u16], e: Edge, entry: Entry)
+    requires { ⌜ Sized size ⌝ }
+    requires { ⌜ length (now table) ≡ edgeCount size ⌝ }
+    requires { ⌜ inGrid size e ≡ true ⌝ }
+    ensures { λ _. ⌜ now (table .exit) ≡ store size (now (table .entry)) e entry ⌝ }
+{
+    let n = number_of(size, e);
+    table[n] = encoded_of(entry);
+}
+
+// Removes a vertex, with the offset it has.
+pub fn remove(size: Size, table: &mut [u16], e: Edge)
+    requires { ⌜ Sized size ⌝ }
+    requires { ⌜ length (now table) ≡ edgeCount size ⌝ }
+    requires { ⌜ inGrid size e ≡ true ⌝ }
+    ensures { λ _. ⌜ now (table .exit) ≡ store size (now (table .entry)) e (Removed (offsetIn (entryOf (getD (now (table .entry)) (number size e) 0)))) ⌝ }
+{
+    let offset = offset_in(entry_at(size, table, e));
+    store(size, table, e, Entry::Removed(offset));
 }

@@ -1,6 +1,6 @@
 -- The entries of a traced table, written eight at a time: a run more of a row, a row more of a kind, and the two kinds.
 use mathlib.Core.Path.{_≡_, refl, ap, ap₂, sym, _∙_}
-use mathlib.Core.Bool.{Bool, true, false, cond}
+use mathlib.Core.Bool.{Bool, true, false}
 use mathlib.Core.List.{List}
 use Prim.Native.Nat.{ℕ, _+_, _-_, _*_, _≤_, _<_}
 use native.Mathlib.Nat.{add-assoc, zero-add}
@@ -10,7 +10,7 @@ use Rattle.grid.specs.Layer.{Layer, bit}
 use Rattle.grid.specs.Edges.{edgeColumns, edgeRows, edgeCount, kindStart, rowStart, edgeAt, isStick, Marks}
 use Rattle.grid.specs.Questions.{Sized}
 use Rattle.grid.proofs.Numbers.{edgeAt-row, edges-split}
-use Rattle.trace.specs.Trace.{tracedEntry, tracedBit}
+use Rattle.trace.specs.Trace.{traced, tracedEntry, tracedBit}
 
 module _ (L : Layer) (sized : Sized (L .size)) (v : Bool) (r : ℕ) (row : r < edgeRows (L .size) v) where
   abbrev start : ℕ
@@ -20,8 +20,8 @@ module _ (L : Layer) (sized : Sized (L .size)) (v : Bool) (r : ℕ) (row : r < e
       → tracedBit (start + 8 * at) x (start + 8 * at + b) ≡ tracedEntry L (start + 8 * at + b)
   run-entry at x b marks h l =
       let back : start + 8 * at + b - (start + 8 * at) ≡ b = omega arith in
-      ap (λ (k : ℕ). cond (bit x k) 128 0) back
-      ∙ ap (λ (s : Bool). cond s 128 0)
+      ap (λ (k : ℕ). traced (bit x k)) back
+      ∙ ap traced
       (marks .ones b h
       ∙ ap (isStick L) (sym (ap (edgeAt (L .size)) (add-assoc start (8 * at) b) ∙ edgeAt-row (L .size) sized v (8 * at + b) r l row)))
 

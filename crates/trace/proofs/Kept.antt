@@ -1,24 +1,26 @@
--- What an accepted Trace leaves: every stick carries a kept vertex, and every other entry is 0.
-use mathlib.Core.Path.{_≡_, refl, sym, ap, _∙_}
-use mathlib.Core.Bool.{Bool, true, false, cond}
+-- What an accepted Trace leaves: every stick carries a kept vertex, and every other entry says 'no stick'.
+use mathlib.Core.Path.{_≡_, refl, ap, _∙_}
+use mathlib.Core.Bool.{true}
 use mathlib.Core.List.{List}
-use Prim.Native.Nat.{ℕ, _≤_, _<_}
+use Prim.Native.Nat.{ℕ}
 use native.Mathlib.Omega.{arith}
 use lib.ListN.{length, getD}
 use Rattle.arith.specs.Ranges.{tabulate, length-tabulateFrom, getD-tabulate}
 use Rattle.grid.specs.Layer.{Layer}
 use Rattle.grid.specs.Edges.{number, edgeCount, isStick, stickAt}
 use Rattle.grid.specs.Questions.{Sound, firstNo}
-use Rattle.grid.specs.declared.edge.Edge.{Edge}
 use Rattle.grid.specs.declared.question.Answer.{Answer}
 use Rattle.grid.specs.declared.question.Answer.the-variants.{Yes, No}
 use Rattle.grid.proofs.Answers.{number-some}
 use Rattle.grid.proofs.Numbers.{number-below, edgeAt-number}
 use Rattle.contour.proofs.Sticks.{stick-in}
-use Rattle.table.specs.Entries.{lengthQuestions}
+use Rattle.table.specs.Entries.{entryOf, lengthQuestions}
+use Rattle.table.specs.Vertices.{isKept}
+use Rattle.table.specs.declared.entry.Entry.the-variants.{Kept}
 use Rattle.table.proofs.Lengths.{lengths-of}
-use Rattle.table.proofs.AllKept.{Inside, AllKept}
-use Rattle.trace.specs.Trace.{tracedEntry, traceOf}
+use Rattle.table.proofs.Entries.{entry-encoded, entry-nothing}
+use Rattle.table.proofs.AllKept.{AllKept}
+use Rattle.trace.specs.Trace.{traced, tracedEntry, traceOf}
 
 abbrev pub tracedTable : Layer → List ℕ
 tracedTable L = tabulate (tracedEntry L) (edgeCount (L .size))
@@ -31,12 +33,11 @@ traced-kept L sound =
           let k = number (L .size) e in
           let within = stick-in L e stick in
           let here : stickAt L k ≡ true = ap (isStick L) (edgeAt-number (L .size) (sound .whole .sized) e within) ∙ stick in
-          let is : getD (tracedTable L) k 0 ≡ 128 =
-          getD-tabulate (tracedEntry L) (edgeCount (L .size)) k 0 (number-below (L .size) (sound .whole .sized) e within)
-          ∙ ap (λ (b : Bool). cond b 128 0) here in
-          rw is (record { low = omega arith; high = omega arith });
+          ap (λ (n : ℕ). isKept (entryOf n))
+          (getD-tabulate (tracedEntry L) (edgeCount (L .size)) k 0 (number-below (L .size) (sound .whole .sized) e within) ∙ ap traced here)
+          ∙ ap isKept (entry-encoded (Kept 128) (record { low = omega arith; high = omega arith }));
       elsewhere = λ k below none.
-          getD-tabulate (tracedEntry L) (edgeCount (L .size)) k 0 below ∙ ap (λ (b : Bool). cond b 128 0) none;
+          ap entryOf (getD-tabulate (tracedEntry L) (edgeCount (L .size)) k 0 below ∙ ap traced none) ∙ entry-nothing;
     }
 
 -- the table of a Trace that is done

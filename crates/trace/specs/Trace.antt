@@ -1,5 +1,5 @@
 -- Trace: "every stick kept at 128".
-use mathlib.Core.Bool.{cond}
+use mathlib.Core.Bool.{Bool, cond}
 use mathlib.Core.List.{List}
 use Prim.Native.Nat.{ℕ, _-_}
 use lib.ListN.{length}
@@ -7,17 +7,22 @@ use Rattle.arith.specs.Ranges.{tabulate}
 use Rattle.grid.specs.Layer.{Layer, bit}
 use Rattle.grid.specs.Edges.{edgeCount, stickAt}
 use Rattle.grid.specs.Questions.{firstNo, ifAllYes, numberOf}
-use Rattle.table.specs.Entries.{lengthQuestions}
+use Rattle.table.specs.Entries.{encoded, lengthQuestions}
+use Rattle.table.specs.declared.entry.Entry.the-variants.{Nothing, Kept}
 use Rattle.trace.specs.declared.tracing.Traced.{Traced}
 use Rattle.trace.specs.declared.tracing.Traced.the-variants.{Done, Refused}
 
--- the entry of edge k
+-- the number of an edge's entry, by whether the edge is a stick
+abbrev pub traced : Bool → ℕ
+traced stick = encoded (cond stick (Kept 128) Nothing)
+
+-- that of edge k
 abbrev pub tracedEntry : Layer → ℕ → ℕ
-tracedEntry L k = cond (stickAt L k) 128 0
+tracedEntry L k = traced (stickAt L k)
 
 -- the same for the entries from a place on, of which the ones of a byte say which are on sticks
 abbrev pub tracedBit : ℕ → ℕ → ℕ → ℕ
-tracedBit start marks k = cond (bit marks (k - start)) 128 0
+tracedBit start marks k = traced (bit marks (k - start))
 
 -- the number of a refusal and its place, both 0 where the call is done; and the table at exit
 pub record Outcome : Type 0 where

@@ -1,21 +1,26 @@
 // Writes the table of a traced layer, eight entries at a time, from the byte that marks the sticks among them.
 use grid::Size;
+use table::Entry;
+use table::encoded_of;
 ghost use mathlib.Core.Path.{_≡_};
-ghost use mathlib.Core.Bool.{cond};
 ghost use Prim.Native.Nat.{_+_, _≤_, _<_, _*_};
 ghost use lib.ListN.{length};
 ghost use Rattle.arith.specs.Ranges.{fill};
 ghost use Rattle.grid.specs.Layer.{layerOf, bit};
 ghost use Rattle.grid.specs.Edges.{edgeColumns, edgeRows, edgeCount, kindStart, rowStart};
 ghost use Rattle.grid.specs.Questions.{Sound};
-ghost use Rattle.trace.specs.Trace.{tracedEntry, tracedBit};
+ghost use Rattle.trace.specs.Trace.{traced, tracedEntry, tracedBit};
 
-// 128 for a one, 0 for a zero.
+// A vertex kept at 128 for a one, no stick for a zero.
 fn entry_at(marks: u8, b: usize) -> u16
     requires { ⌜ b < 8 ⌝ }
-    ensures { λ r. ⌜ r ≡ cond (bit marks b) 128 0 ⌝ }
+    ensures { λ r. ⌜ r ≡ traced (bit marks b) ⌝ }
 {
-    if (marks >> b) % 2 == 1 { 128 } else { 0 }
+    if (marks >> b) % 2 == 1 {
+        encoded_of(Entry::Kept(128))
+    } else {
+        encoded_of(Entry::Nothing)
+    }
 }
 
 // `count` entries from `start` on: bit b of marks says whether the b-th of them is on a stick.

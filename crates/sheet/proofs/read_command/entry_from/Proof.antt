@@ -1,29 +1,25 @@
 -- `entry_from` meets its contract.
+use borrow.Author.Tests.{eq-eqb, ne-eqb}
 use borrow.Author.Needs.{needs}
 use Rattle.sheet.proofs.read_command.entry_from.Statement.{statement}
 use Rattle.sheet.proofs.read_command.entry_from.Tie as tie
 
-add-entry-of-offset : tie.Need-add-entry-of-offset
-add-entry-of-offset c = search needs
+add-offset : tie.Need-add-offset
+add-offset c = search needs
 
-shared-slice-read-entry-of-offset : tie.Need-shared-slice-read-entry-of-offset
-shared-slice-read-entry-of-offset c = search needs
+shared-slice-read-offset : tie.Need-shared-slice-read-offset
+shared-slice-read-offset c = search needs
 
-shared-slice-read-entry-of-offset-2 : tie.Need-shared-slice-read-entry-of-offset-2
-shared-slice-read-entry-of-offset-2 c = search needs
-
-entry-of-offset-requires : tie.Need-entry-of-offset-requires
-entry-of-offset-requires c κs = search needs
+shared-slice-read-if1 : tie.Need-shared-slice-read-if1
+shared-slice-read-if1 c = search needs
 
 returns : tie.Need-returns
-returns c = c .entry-of-offset .ensures
+returns c = rw (eq-eqb _ _ (c .if1 .taken))
+
+returns-2 : tie.Need-returns-2
+returns-2 c = rw (ne-eqb _ _ (c .if1 .left))
 
 pub entry-from-spec : {M : Type 1} → statement M
 entry-from-spec =
     tie.close
-    (tie.spec
-    add-entry-of-offset
-    shared-slice-read-entry-of-offset
-    shared-slice-read-entry-of-offset-2
-    entry-of-offset-requires
-    returns)
+    (tie.spec add-offset shared-slice-read-offset shared-slice-read-if1 returns returns-2)

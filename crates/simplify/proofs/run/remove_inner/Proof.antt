@@ -8,7 +8,10 @@ use lib.ListN.{length}
 use Rattle.grid.specs.Layer.{layerOf}
 use Rattle.grid.specs.Edges.{isStick}
 use Rattle.step.proofs.Walks.{next-stick}
-use Rattle.simplify.specs.Runs.{between, removeVertex}
+use Rattle.contour.proofs.Sticks.{stick-in}
+use Rattle.table.specs.Vertices.{offsetAt}
+use Rattle.table.specs.Stores.{without}
+use Rattle.simplify.specs.Runs.{between}
 use Rattle.simplify.proofs.Steps.{inner-none, inner-more}
 use Rattle.simplify.proofs.run.remove_inner.Statement.{statement}
 use Rattle.simplify.proofs.run.remove_inner.Tie as tie
@@ -18,7 +21,7 @@ Inv-loop size bitmap table₀ n at₀ left₀ table at left =
     let L = layerOf size bitmap in
     (isStick L at ≡ true)
     × (length table ≡ length table₀)
-    × (foldl (removeVertex L) table (between L at left) ≡ foldl (removeVertex L) table₀ (between L at₀ n))
+    × (foldl (without L) table (between L at left) ≡ foldl (without L) table₀ (between L at₀ n))
 
 abbrev μ-loop : tie.MeasureT-loop
 μ-loop size bitmap table₀ n at₀ left₀ table at left = left
@@ -29,15 +32,15 @@ loop-holds c = (c .before .before .pre .1 .1, refl, refl)
 next-stick-requires : tie.Need-next-stick-requires Inv-loop μ-loop
 next-stick-requires c κs = (c .before .before .before .before .pre .0, c .before .loop .inv .0)
 
-remove-vertex-requires : tie.Need-remove-vertex-requires Inv-loop μ-loop
-remove-vertex-requires c κs =
+remove-requires : tie.Need-remove-requires Inv-loop μ-loop
+remove-requires c κs =
     let a = c .before .before .before .before .before .before .args in
     let given = c .before .before .before .before .before .before .pre in
     let L = layerOf (a .size) (a .bitmap .now) in
     let loop = c .before .before .before .loop in
     let step = c .before .next-stick in
     let stick : isStick L (step .result) ≡ true = rw (step .ensures) (next-stick L (given .0) (loop .at) (loop .inv .0)) in
-    (given .0, (loop .inv .1 ∙ given .1 .0, stick))
+    (given .0 .whole .sized, (loop .inv .1 ∙ given .1 .0, stick-in L (step .result) stick))
 
 sub-left : tie.Need-sub-left Inv-loop μ-loop
 sub-left c = search needs
@@ -46,16 +49,17 @@ loop-less : tie.Need-loop-less Inv-loop μ-loop
 loop-less c = search needs
 
 loop-again : tie.Need-loop-again Inv-loop μ-loop
+unfolding offsetAt
 loop-again c =
     let a = c .before .before .before .before .before .before .before .before .before .args in
     let L = layerOf (a .size) (a .bitmap .now) in
     let loop = c .before .before .before .before .before .before .loop in
     let step = c .before .before .before .before .next-stick in
     let more = c .before .before .before .before .before .loop-test .taken in
-    let done = c .before .before .remove-vertex in (
+    let done = c .before .before .remove in (
       rw (step .ensures) (next-stick L (c .before .before .before .before .before .before .before .before .before .pre .0) (loop .at) (loop .inv .0)),
-      done .kept .1 .1 .0 ∙ loop .inv .1,
-      ap (λ (t : List ℕ). foldl (removeVertex L) t (between L (step .result) (loop .left - 1))) (done .ensures)
+      done .kept .1 .0 ∙ loop .inv .1,
+      ap (λ (t : List ℕ). foldl (without L) t (between L (step .result) (loop .left - 1))) (done .ensures)
           ∙ sym (inner-more L (loop .left) (loop .at) (step .result) (loop .table) more (step .ensures))
           ∙ loop .inv .2,
     )
@@ -78,7 +82,7 @@ remove-inner-spec =
     μ-loop
     loop-holds
     next-stick-requires
-    remove-vertex-requires
+    remove-requires
     sub-left
     loop-less
     loop-again

@@ -12,10 +12,12 @@ use Rattle.contour.specs.Walk.{rest}
 use Rattle.contour.specs.Contours.{walkOf, contourOf}
 use Rattle.contour.proofs.Sticks.{stick-in}
 use Rattle.chord.specs.Points.{position}
+use Rattle.table.specs.Entries.{encoded}
+use Rattle.table.specs.declared.entry.Entry.the-variants.{Kept}
 use Rattle.drawn.specs.Drawn.{vertex}
 use Rattle.drawn.proofs.Runs.{in-grid-near}
 use Rattle.smooth.specs.Smooth.{passed, passContour}
-use Rattle.smooth.proofs.Walking.{ready-kept, vertex-of, Going, going-start, here-stick, here-below, there-stick, there-below, there-inside, around, total-within, goes-on, goes-less, goes-home}
+use Rattle.smooth.proofs.Walking.{ready-kept, vertex-of, Going, going-start, here-stick, here-below, here-suits, there-stick, there-below, there-suits, around, total-within, goes-on, goes-less, goes-home}
 use Rattle.smooth.proofs.pass.pass_contour.Statement.{statement}
 use Rattle.smooth.proofs.pass.pass_contour.Tie as tie
 
@@ -106,7 +108,7 @@ offset-of-requires c κs =
     let loop = c .before .before .before .loop in
     let to = c .before .before .next-stick in
     let after = c .before .number-of2 in
-    there-inside L (given .0 .sound) (a .first) whole (loop .table) (loop .e) (loop .at) (loop .p) (loop .sum) (loop .inv) (to .result) (to .ensures) (after .result) (after .ensures) .high
+    there-suits L (given .0 .sound) (a .first) whole (loop .table) (loop .e) (loop .at) (loop .p) (loop .sum) (loop .inv) (to .result) (to .ensures) (after .result) (after .ensures)
 
 position-of-requires : tie.Need-position-of-requires Inv-loop μ-loop
 position-of-requires c κs =
@@ -131,7 +133,7 @@ visit-requires c κs =
     let q = c .before .position-of in
     let q-is = q .ensures .0 ∙ ap (position (to .result)) (c .before .before .offset-of .ensures) in
     let near = in-grid-near (a .size) (given .0 .sound .whole .sized) (loop .e) (stick-in L (loop .e) (here-stick L (given .0 .sound) (a .first) whole (loop .table) (loop .e) (loop .at) (loop .p) (loop .sum) (loop .inv))) in
-    (here-below L (given .0 .sound) (a .first) whole (loop .table) (loop .e) (loop .at) (loop .p) (loop .sum) (loop .inv), (loop .inv .p-near, (q .ensures .1, (near, around L (given .0 .sound) (a .first) whole (loop .table) (loop .e) (loop .at) (loop .p) (loop .sum) (loop .inv) (to .result) (to .ensures) (after .result) (after .ensures) (q .result) q-is))))
+    (here-below L (given .0 .sound) (a .first) whole (loop .table) (loop .e) (loop .at) (loop .p) (loop .sum) (loop .inv), (loop .inv .p-near, (q .ensures .1, (near, (here-suits L (given .0 .sound) (a .first) whole (loop .table) (loop .e) (loop .at) (loop .p) (loop .sum) (loop .inv), around L (given .0 .sound) (a .first) whole (loop .table) (loop .e) (loop .at) (loop .p) (loop .sum) (loop .inv) (to .result) (to .ensures) (after .result) (after .ensures) (q .result) q-is)))))
 
 add-sum : tie.Need-add-sum Inv-loop μ-loop
 add-sum c =
@@ -199,7 +201,7 @@ same-length c =
     let q = c .before .before .before .before .before .before .before .position-of in
     let q-is = q .ensures .0 ∙ ap (position (to .result)) (c .before .before .before .before .before .before .before .before .offset-of .ensures) in
     let moved = c .before .before .before .before .before .visit in
-    ap length (moved .ensures .1 .1) ∙ length-set (loop .table) (loop .at) (moved .result .offset) ∙ loop .inv .kept .whole ∙ sym (given .0 .whole)
+    ap length (moved .ensures .1 .1) ∙ length-set (loop .table) (loop .at) (encoded (Kept (moved .result .offset))) ∙ loop .inv .kept .whole ∙ sym (given .0 .whole)
 
 returns : tie.Need-returns Inv-loop μ-loop
 returns c =

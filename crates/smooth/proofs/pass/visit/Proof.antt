@@ -1,9 +1,10 @@
 -- `visit` meets its contract.
-use mathlib.Core.Path.{refl, ap, _∙_}
+use mathlib.Core.Path.{ap, _∙_}
 use Prim.Native.Nat.{ℕ}
-use borrow.Author.Needs.{needs}
+use lib.ListN.{set}
 use Rattle.chord.specs.Crossing.{distance}
 use Rattle.smooth.specs.Offset.{newOffset}
+use borrow.Author.Needs.{needs}
 use Rattle.smooth.proofs.pass.visit.Statement.{statement}
 use Rattle.smooth.proofs.pass.visit.Tie as tie
 
@@ -19,10 +20,10 @@ offset-of-requires c κs = search needs
 new-offset-requires : tie.Need-new-offset-requires
 new-offset-requires c κs =
     let given = c .before .before .before .pre in
-    (given .1 .0, (given .1 .1 .0, (given .1 .1 .1 .0, rw (c .offset-of .ensures) (given .1 .1 .1 .1))))
+    (given .1 .0, (given .1 .1 .0, (given .1 .1 .1 .0, rw (c .offset-of .ensures) (given .1 .1 .1 .1 .1))))
 
-cast-table : tie.Need-cast-table
-cast-table c = search needs
+encoded-of-requires : tie.Need-encoded-of-requires
+encoded-of-requires c κs = search needs
 
 mul-table : tie.Need-mul-table
 mul-table c = search needs
@@ -38,10 +39,11 @@ same-length c = search needs
 
 returns : tie.Need-returns
 returns c =
-    let a = c .before .before .before .before .before .args in
-    let old = c .before .before .offset-of .ensures in (
-      c .before .new-offset .ensures ∙ ap (newOffset (a .p) (a .q) (a .e)) old,
-      (c .change-of .ensures ∙ ap (λ (n : ℕ). distance n (c .before .new-offset .result)) old, refl),
+    let a = c .before .before .before .before .before .before .args in
+    let old = c .before .before .before .offset-of .ensures in
+    let new = c .before .before .new-offset in (
+      new .ensures ∙ ap (newOffset (a .p) (a .q) (a .e)) old,
+      (c .change-of .ensures ∙ ap (λ (n : ℕ). distance n (new .result)) old, ap (set (a .table .now) (a .at)) (c .before .encoded-of .ensures)),
     )
 
 pub visit-spec : {M : Type 1} → statement M
@@ -52,7 +54,7 @@ visit-spec =
     slice-read-offset-of
     offset-of-requires
     new-offset-requires
-    cast-table
+    encoded-of-requires
     mul-table
     slice-write-table
     change-of-requires

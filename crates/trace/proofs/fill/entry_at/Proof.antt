@@ -12,13 +12,19 @@ cast-if1 c = search needs
 shr-if1 : tie.Need-shr-if1
 shr-if1 c = search needs
 
+encoded-of-requires : tie.Need-encoded-of-requires
+encoded-of-requires c κs = search needs
+
+encoded-of-requires-2 : tie.Need-encoded-of-requires-2
+encoded-of-requires-2 c κs = search needs
+
 returns : tie.Need-returns
 unfolding bit
-returns c = rw (eq-eqb _ _ (c .if1 .taken))
+returns c = rw (eq-eqb _ _ (c .before .if1 .taken)) (c .encoded-of .ensures)
 
 returns-2 : tie.Need-returns-2
 unfolding bit
-returns-2 c = rw (ne-eqb _ _ (c .if1 .left))
+returns-2 c = rw (ne-eqb _ _ (c .before .if1 .left)) (c .encoded-of2 .ensures)
 
 pub entry-at-spec : {M : Type 1} → statement M
-entry-at-spec = tie.close (tie.spec cast-if1 shr-if1 returns returns-2)
+entry-at-spec = tie.close (tie.spec cast-if1 shr-if1 encoded-of-requires encoded-of-requires-2 returns returns-2)

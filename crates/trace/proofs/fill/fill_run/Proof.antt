@@ -1,6 +1,5 @@
 -- `fill_run` meets its contract. The invariant: the entries passed are written.
 use mathlib.Core.Path.{_≡_, refl, ap, sym, _∙_}
-use mathlib.Core.Bool.{cond}
 use mathlib.Core.List.{List}
 use Prim.Native.Nat.{ℕ, _+_, _-_, _*_, _≤_, _<_}
 use native.Mathlib.Omega.{arith}
@@ -8,7 +7,7 @@ use borrow.Author.Needs.{needs}
 use lib.ListN.{length, set}
 use Rattle.arith.specs.Ranges.{fill, length-fill, fill-none, fill-more}
 use Rattle.grid.specs.Layer.{bit}
-use Rattle.trace.specs.Trace.{tracedBit}
+use Rattle.trace.specs.Trace.{traced, tracedBit}
 use Rattle.trace.proofs.fill.fill_run.Statement.{statement}
 use Rattle.trace.proofs.fill.fill_run.Tie as tie
 
@@ -51,7 +50,7 @@ loop-again c =
       omega arith,
       ap (λ (t : List ℕ). set t (a .start + b) (c .entry-at .result)) (c .before .before .loop .inv .1)
           ∙ ap (λ (x : ℕ). set (fill (tracedBit (a .start) (a .marks)) (a .start) b (a .table .now)) (a .start + b) x)
-          (c .entry-at .ensures ∙ ap (λ (k : ℕ). cond (bit (a .marks) k) 128 0) (sym back))
+          (c .entry-at .ensures ∙ ap (λ (k : ℕ). traced (bit (a .marks) k)) (sym back))
           ∙ fill-more (tracedBit (a .start) (a .marks)) (a .start) b (a .table .now),
     )
 

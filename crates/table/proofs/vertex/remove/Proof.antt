@@ -1,0 +1,32 @@
+-- `remove` meets its contract.
+use mathlib.Core.Path.{ap, _∙_}
+use Prim.Native.Nat.{ℕ}
+use borrow.Author.Needs.{needs}
+use Rattle.table.specs.Vertices.{offsetIn}
+use Rattle.table.specs.Stores.{store}
+use Rattle.table.specs.declared.entry.Entry.the-variants.{Removed}
+use Rattle.table.proofs.vertex.remove.Statement.{statement}
+use Rattle.table.proofs.vertex.remove.Tie as tie
+
+entry-at-requires : tie.Need-entry-at-requires
+entry-at-requires c κs = search needs
+
+offset-in-requires : tie.Need-offset-in-requires
+offset-in-requires c κs = search needs
+
+store-requires : tie.Need-store-requires
+store-requires c κs = search needs
+
+same-length : tie.Need-same-length
+same-length c = search needs
+
+returns : tie.Need-returns
+returns c =
+    let a = c .before .before .before .before .before .before .before .before .args in
+    c .before .before .store .ensures
+    ∙ ap (λ (o : ℕ). store (a .size) (a .table .now) (a .e) (Removed o))
+    (c .before .before .before .before .offset-in .ensures ∙ ap offsetIn (c .before .before .before .before .before .entry-at .ensures))
+
+pub remove-spec : {M : Type 1} → statement M
+remove-spec =
+    tie.close (tie.spec entry-at-requires offset-in-requires store-requires same-length returns)
