@@ -31,7 +31,6 @@ pub fn answer_call(
     bitmap: &[u8],
     table: &mut [u16],
     text: &mut [u8],
-    points: &mut [f64],
     state: State,
 ) -> State {
     let bytes = state.bytes;
@@ -48,7 +47,6 @@ pub fn answer_call(
         &bitmap[0..bytes],
         &mut table[0..entries],
         text,
-        points,
         state,
     );
     let next = called.next;
@@ -64,7 +62,6 @@ fn call(
     bitmap: &[u8],
     table: &mut [u16],
     text: &mut [u8],
-    points: &mut [f64],
     state: State,
 ) -> Called {
     match letter {
@@ -73,7 +70,7 @@ fn call(
         b'H' => held_call(bitmap, table, state),
         b'S' => smooth_call(input, bitmap, table, state),
         b'Y' => simplify_call(input, bitmap, table, state),
-        _ => byte_call(letter, input, bitmap, table, text, points, state),
+        _ => byte_call(letter, input, bitmap, table, text, state),
     }
 }
 
@@ -84,14 +81,13 @@ fn byte_call(
     bitmap: &[u8],
     table: &mut [u16],
     text: &mut [u8],
-    points: &mut [f64],
     state: State,
 ) -> Called {
     match letter {
         b'W' => write_call(input, bitmap, table, text, state),
         b'D' => read_call(input, bitmap, table, text, state),
         b'R' => roll_call(input, bitmap, table, text, state),
-        b'L' => plan_call(input, bitmap, table, text, points, state),
+        b'L' => plan_call(input, bitmap, table, text, state),
         _ => no_call(),
     }
 }

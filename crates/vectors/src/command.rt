@@ -53,7 +53,6 @@ pub fn turn(
     bitmap: &mut [u8],
     table: &mut [u16],
     text: &mut [u8],
-    points: &mut [f64],
     state: State,
 ) -> State {
     let byte = reader::take_u8(input, state.reader);
@@ -64,7 +63,7 @@ pub fn turn(
         b'M' => set_table(input, table, begun),
         b'P' => set_entry(input, table, begun),
         b'E' => end(begun),
-        _ => answer_call(letter, input, bitmap, table, text, points, begun),
+        _ => answer_call(letter, input, bitmap, table, text, begun),
     }
 }
 

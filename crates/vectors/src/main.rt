@@ -17,32 +17,32 @@ const TABLE_LIMIT: usize = 2095200;
 
 const INPUT_LIMIT: usize = 65536;
 
-// The longest roll, sheet or output of bytes, and the longest output of floats.
+// The longest roll, sheet or output of bytes.
 const TEXT_LIMIT: usize = 500000;
-
-const POINTS_LIMIT: usize = 32768;
 
 // More commands than any script has.
 const COMMAND_LIMIT: u32 = 1000000;
 
-// Carries out the commands of a script up to its end, and answers true, or up to one that is wrong, and answers false.
-fn run(
-    input: &mut [u8],
-    bitmap: &mut [u8],
-    table: &mut [u16],
-    text: &mut [u8],
-    points: &mut [f64],
-) -> bool {
+// Says that the script was wrong, unless it has ended.
+fn finish(ended: bool) {
+    if !ended {
+        io::write_all(STDOUT_FILENO, b"?\n");
+    }
+}
+
+// Carries out the commands of a script up to its end or up to one that is wrong.
+fn run(input: &mut [u8], bitmap: &mut [u8], table: &mut [u16], text: &mut [u8]) {
     let mut state = command::start();
     let mut left = COMMAND_LIMIT;
     while left > 0 {
-        state = command::turn(input, bitmap, table, text, points, state);
+        state = command::turn(input, bitmap, table, text, state);
         if command::is_over(state) {
-            return state.ended;
+            finish(state.ended);
+            return;
         }
         left -= 1;
     }
-    false
+    finish(false);
 }
 
 fn main() {
@@ -50,8 +50,5 @@ fn main() {
     let mut bitmap = [0u8; BITMAP_LIMIT];
     let mut table = [0u16; TABLE_LIMIT];
     let mut text = [0u8; TEXT_LIMIT];
-    let mut points = [0.0f64; POINTS_LIMIT];
-    if !run(&mut input, &mut bitmap, &mut table, &mut text, &mut points) {
-        io::write_all(STDOUT_FILENO, b"?\n");
-    }
+    run(&mut input, &mut bitmap, &mut table, &mut text);
 }

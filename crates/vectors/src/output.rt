@@ -11,6 +11,9 @@ use super::reader;
 use planner::Planned;
 use sheet::Written;
 
+// The longest output of floats.
+const POINTS_LIMIT: usize = 32768;
+
 fn fill_bytes(output: &mut [u8]) {
     let mut i = 0;
     while i < output.len() {
@@ -78,7 +81,7 @@ fn planned(
     }
 }
 
-pub fn plan_call(
+fn plan_to(
     input: &mut [u8],
     bitmap: &[u8],
     table: &[u16],
@@ -99,4 +102,15 @@ pub fn plan_call(
     let answer = planned(bitmap, table, &mut text[0..n], &mut points[0..m], state);
     let next = floats.next;
     Called { answer, next }
+}
+
+pub fn plan_call(
+    input: &mut [u8],
+    bitmap: &[u8],
+    table: &[u16],
+    text: &mut [u8],
+    state: State,
+) -> Called {
+    let mut points = [0.0f64; POINTS_LIMIT];
+    plan_to(input, bitmap, table, text, &mut points, state)
 }

@@ -1,10 +1,8 @@
 -- The program is safe and ends.
--- The five arrays are too long for their lengths to be computed, so these come from a law on repeats.
+-- The arrays are too long for their lengths to be computed, so these come from a law on repeats.
 use mathlib.Core.Path.{sym}
 use Prim.Native.Nat.{ℕ}
-use lib.Ieee.{Float, binary64, ofBits}
 use lib.ListN.{length-replicate}
-use borrow.Author.Needs.{needs}
 use Rattle.vectors.proofs.main.Statement.{statement}
 use Rattle.vectors.proofs.main.Tie as tie
 
@@ -16,9 +14,5 @@ main-spec =
     (λ c. sym (length-replicate {A = ℕ} 131200 0))
     (λ c. sym (length-replicate {A = ℕ} 2095200 0))
     (λ c. sym (length-replicate {A = ℕ} 500000 0))
-    (λ c. sym (length-replicate {A = Float} 32768 (ofBits binary64 0)))
-    (λ c κs. search needs)
-    (λ c. search needs)
-    (λ c κs. search needs)
-    (λ c. search needs)
-    (λ c. search needs))
+    (λ c κs. tt)
+    (λ c. tt))
