@@ -3,3 +3,4 @@ pub mod Runs
 pub mod Lengths
 pub mod Suits
 pub mod AllKept
+pub mod Local
