@@ -5,3 +5,4 @@ pub mod Suits
 pub mod Entries
 pub mod AllKept
 pub mod Stores
+pub mod Local
