@@ -21,8 +21,7 @@ use Rattle.contour.proofs.Members.{on-self, on-next}
 use Rattle.contour.proofs.First.{first-one}
 use Rattle.contour.proofs.Sticks.{laws}
 use Rattle.chord.specs.Points.{Position, position}
-use Rattle.table.proofs.AllKept.{entry}
-use Rattle.table.proofs.Local.{Agree, Off, Local, same-offset, stored-agree, off-other, agree-other, local-commute}
+use Rattle.table.proofs.Local.{entry, Agree, Off, Local, same-offset, stored-agree, off-other, agree-other, local-commute}
 use Rattle.drawn.specs.Drawn.{vertex}
 use Rattle.simplify.specs.Runs.{stickAfter, following, between, chordPasses, passes, Progress, removeVertex, half, oneTried, tryRun, simplifyContour}
 use Rattle.simplify.specs.Parts.{begun}

@@ -17,8 +17,7 @@ use Rattle.contour.specs.Walk.{occurrences, first, On}
 use Rattle.contour.specs.Contours.{walkOf, contourOf}
 use Rattle.contour.proofs.Members.{on-next, on-prev}
 use Rattle.contour.proofs.Sticks.{laws}
-use Rattle.table.proofs.AllKept.{entry}
-use Rattle.table.proofs.Local.{Agree, Local, same-offset, stored-agree, off-other}
+use Rattle.table.proofs.Local.{entry, Agree, Local, same-offset, stored-agree, off-other}
 use Rattle.smooth.specs.Smooth.{smoothedAt, Pass, visit, passContour}
 use Rattle.smooth.proofs.Steps.{visit-table, visit-sum, visit-elsewhere, visit-length}
 

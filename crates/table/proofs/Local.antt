@@ -24,7 +24,10 @@ use Rattle.contour.proofs.Sticks.{laws, stick-in}
 use Rattle.contour.proofs.Theorems.{on-no-other}
 use Rattle.table.specs.Entries.{entryOf}
 use Rattle.table.specs.Vertices.{offsetIn, offsetAt}
-use Rattle.table.proofs.AllKept.{entry}
+
+-- the number that stands for an edge
+abbrev pub entry : Layer → List ℕ → Edge → ℕ
+entry L t e = getD t (number (L .size) e) 0
 
 -- two tables with the same entries on the contour of f
 pub record Agree (L : Layer) (f : Edge) (t u : List ℕ) : Type 0 where
