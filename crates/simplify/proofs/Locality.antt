@@ -21,9 +21,10 @@ use Rattle.contour.proofs.Members.{on-self, on-next}
 use Rattle.contour.proofs.First.{first-one}
 use Rattle.contour.proofs.Sticks.{laws}
 use Rattle.chord.specs.Points.{Position, position}
+use Rattle.table.specs.Stores.{without}
 use Rattle.table.proofs.Local.{entry, Agree, Off, Local, same-offset, stored-agree, off-other, agree-other, local-commute}
 use Rattle.drawn.specs.Drawn.{vertex}
-use Rattle.simplify.specs.Runs.{stickAfter, following, between, chordPasses, passes, Progress, removeVertex, half, oneTried, tryRun, simplifyContour}
+use Rattle.simplify.specs.Runs.{stickAfter, following, between, chordPasses, passes, Progress, half, oneTried, tryRun, simplifyContour}
 use Rattle.simplify.specs.Parts.{begun}
 use Rattle.simplify.proofs.Trying.{onTop, inner-is, try-passes, try-splits, try-none, contour-runs}
 use Rattle.simplify.proofs.Layers.{contour-from, contour-within}
@@ -38,11 +39,11 @@ module _ (L : Layer) (sound : Sound L) (f : Edge) (stick : isStick L f ≡ true)
   -- ---- what simplifying changes
 
   inner-elsewhere : (n : ℕ) (e : Edge) (t : List ℕ) (k : ℕ) → On (walkOf L) f e → Off L f k
-      → getD (foldl (removeVertex L) t (following L n e)) k 0 ≡ getD t k 0
+      → getD (foldl (without L) t (following L n e)) k 0 ≡ getD t k 0
   inner-elsewhere zero e t k on off = refl
   inner-elsewhere (suc n) e t k on off =
       let on′ = on-next (walkOf L) (laws L sound) f e stick on in
-      inner-elsewhere n (next L e) (removeVertex L t (next L e)) k on′ off
+      inner-elsewhere n (next L e) (without L t (next L e)) k on′ off
       ∙ getD-set-other t (number (L .size) (next L e)) k _ 0 (off (next L e) on′)
 
   module _ (tolerance : ℕ) where
@@ -88,7 +89,7 @@ module _ (L : Layer) (sound : Sound L) (f : Edge) (stick : isStick L f ≡ true)
       ∙ (λ i. each (chordPasses L u tolerance (same-vertex a e on i) (same-vertex a (stickAfter L n e) (on-steps n e on) i)) (between L e n))
 
   inner-agree : (n : ℕ) (e : Edge) {t u : List ℕ} → On (walkOf L) f e → Agree L f t u
-      → Agree L f (foldl (removeVertex L) t (following L n e)) (foldl (removeVertex L) u (following L n e))
+      → Agree L f (foldl (without L) t (following L n e)) (foldl (without L) u (following L n e))
   inner-agree zero e on a = a
   inner-agree (suc n) e on a =
       let on′ = on-next (walkOf L) (laws L sound) f e stick on in
