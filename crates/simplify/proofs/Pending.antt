@@ -154,26 +154,31 @@ module _ (L : Layer) (tolerance : ℕ) (f : Edge) (n : ℕ) (t₀ : List ℕ) wh
     pub gives : tryAll L tolerance (record { table = table; removed = removed; tried = tried }) e (record { edges = m; end = end } ∷ waiting f counts ends top)
         ≡ simplifyContour L tolerance (begun t₀) f
 
-module _ (L : Layer) (sound : Sound L) (tolerance : ℕ) (f : Edge) (stick : isStick L f ≡ true) (n : ℕ) (at-n : n ≡ length (contourOf L f))
-    (t₀ : List ℕ) where
+-- what the loop is given: a sound layer, and a contour of n sticks from f on
+pub record Given (L : Layer) (f : Edge) (n : ℕ) : Type 0 where
+  pub sound : Sound L
+  pub stick : isStick L f ≡ true
+  pub all : n ≡ length (contourOf L f)
+
+module _ {L : Layer} {f : Edge} {n : ℕ} (given : Given L f n) where
   n-split : Split n
-  n-split = split-of n (omega (arith, at-n, four-sticks L sound f stick))
+  n-split = split-of n (omega (arith, given .all, four-sticks L (given .sound) f (given .stick)))
 
   pub n-small : n ≤ 2095104
-  n-small = omega (arith, at-n, most-sticks L sound f stick)
+  n-small = omega (arith, given .all, most-sticks L (given .sound) f (given .stick))
 
   -- where the first run ends
   pub start-along : {h : ℕ} → h ≡ half n → {marks : List ℕ} → Marked L f marks → Along L marks f 0 h
   start-along at-h marked =
-      record { from = f; stick = stick; marked = marked; here = sym (stick-none L 0 f (omega arith)); inside = omega (arith, n-split, at-h, at-n) }
+      record { from = f; stick = given .stick; marked = marked; here = sym (stick-none L 0 f (omega arith)); inside = omega (arith, n-split, at-h, given .all) }
 
   -- at the start the second run waits
-  pub pending-start : (counts : List ℕ) (ends : List Edge) (h : ℕ) (u : Edge) → length counts ≡ 22 → length ends ≡ 22
+  pub pending-start : {tolerance : ℕ} {t₀ : List ℕ} (counts : List ℕ) (ends : List Edge) (h : ℕ) (u : Edge) → length counts ≡ 22 → length ends ≡ 22
       → getD counts 0 0 ≡ n - h → getD ends 0 f ≡ f → h ≡ half n → u ≡ stickAfter L h f → Pending L tolerance f n t₀ t₀ counts ends h 1 f 0 u 0 0
-  pending-start counts ends h u sized sized-too first-edges first-end at-h at-u =
+  pending-start {tolerance} {t₀} counts ends h u sized sized-too first-edges first-end at-h at-u =
       let s = n-split in
       let back : f ≡ stickAfter L (n - h) u =
-      end-of L tolerance f u f n h (omega (arith, s, at-h)) at-u (once-round L sound f n stick at-n) in
+      end-of L tolerance f u f n h (omega (arith, s, at-h)) at-u (once-round L (given .sound) f n (given .stick) (given .all)) in
       let second : Run = record { edges = n - h; end = f } in
       let one : waiting f counts ends 1 ≡ second ∷ [] = λ i. record { edges = first-edges i; end = first-end i } ∷ [] in
       record {
@@ -194,14 +199,14 @@ module _ (L : Layer) (sound : Sound L) (tolerance : ℕ) (f : Edge) (stick : isS
             ∙ ap (λ (x : Edge). tryRun L tolerance (n - h) (tryRun L tolerance h (begun t₀) f h) x (n - h)) (sym at-u)
             ∙ two-deep L tolerance n h (n - h) (begun t₀) f u (omega (arith, s, at-h)) (omega (arith, s, at-h)) (omega (arith, s, at-h)) (omega (arith, s, at-h))
             ∙ (λ i. tryRun L tolerance n (tryRun L tolerance n (begun t₀) f (at-h i)) ((at-u ∙ ap (λ (k : ℕ). stickAfter L k f) at-h) i) (n - at-h i))
-            ∙ (λ i. tryRun L tolerance (at-n i) (tryRun L tolerance (at-n i) (begun t₀) f (half (at-n i))) (stickAfter L (half (at-n i)) f) (at-n i - half (at-n i)))
+            ∙ ap (λ (k : ℕ). tryRun L tolerance k (tryRun L tolerance k (begun t₀) f (half k)) (stickAfter L (half k) f) (k - half k)) (given .all)
             ∙ sym (contour-runs L tolerance (begun t₀) f);
       }
 
-  module _ {table counts : List ℕ} {ends : List Edge} {m top : ℕ} {e : Edge} {p : ℕ} {end : Edge} {removed tried : ℕ}
+  module _ {tolerance : ℕ} {t₀ table counts : List ℕ} {ends : List Edge} {m top : ℕ} {e : Edge} {p : ℕ} {end : Edge} {removed tried : ℕ}
       (now : Pending L tolerance f n t₀ table counts ends m top e p end removed tried) where
     pub stands : isStick L e ≡ true
-    stands = stick-on L sound f e p stick (now .here)
+    stands = stick-on L (given .sound) f e p (given .stick) (now .here)
 
     pub inside : p + m ≤ n
     inside = waits-few L n (p + m) (now .left) end (waiting f counts ends top) (now .waits) .1
@@ -218,7 +223,7 @@ module _ (L : Layer) (sound : Sound L) (tolerance : ℕ) (f : Edge) (stick : isS
         let a = rw (now .gives) at (all-more L tolerance s e (record { edges = m; end = end } ∷ waiting f counts ends top)) in
         let w = contour-within L tolerance (begun t₀) f in
         let c = n-small in
-        (omega (arith, a .0, w .removed-most, at-n), omega (arith, a .1, w .tried-most, at-n), a .1)
+        (omega (arith, a .0, w .removed-most, given .all), omega (arith, a .1, w .tried-most, given .all), a .1)
 
     -- the run is split
     module _ (no-pass : passes L table tolerance e m ≡ false) (h : ℕ) (at-h : h ≡ half m) where
@@ -234,7 +239,7 @@ module _ (L : Layer) (sound : Sound L) (tolerance : ℕ) (f : Edge) (stick : isS
           omega (arith, few, c .1)
 
       pub along : {marks : List ℕ} → Marked L f marks → Along L marks e p h
-      along marked = record { from = f; stick = stick; marked = marked; here = now .here; inside = omega (arith, inside, parts, at-h, at-n) }
+      along marked = record { from = f; stick = given .stick; marked = marked; here = now .here; inside = omega (arith, inside, parts, at-h, given .all) }
 
       pub pending-split : (u : Edge) → u ≡ stickAfter L h e
           → Pending L tolerance f n t₀ table (set counts top (m - h)) (set ends top end) h (top + 1) e p u removed (tried + 1)

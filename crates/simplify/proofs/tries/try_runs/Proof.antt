@@ -10,7 +10,7 @@ use Rattle.grid.specs.Layer.{layerOf}
 use Rattle.grid.specs.Edges.{isStick}
 use Rattle.simplify.specs.Runs.{passes, simplifyContour}
 use Rattle.simplify.specs.Parts.{begun}
-use Rattle.simplify.proofs.Pending.{Pending, pending-start, start-along, n-small, stands, inside, counts-small, few, room, along, pending-split, pending-last, pending-next}
+use Rattle.simplify.proofs.Pending.{Pending, Given, pending-start, start-along, n-small, stands, inside, counts-small, few, room, along, pending-split, pending-last, pending-next}
 use Rattle.simplify.proofs.tries.try_runs.Statement.{statement}
 use Rattle.simplify.proofs.tries.try_runs.Tie as tie
 
@@ -21,6 +21,9 @@ Inv-loop size bitmap table₀ t marks n edges₀ ends₀ m₀ top₀ e₀ p₀ e
 abbrev μ-loop : tie.MeasureT-loop
 μ-loop size bitmap table₀ t marks n edges₀ ends₀ m₀ top₀ e₀ p₀ end₀ removed₀ tried₀ table edges ends m top e p end removed tried =
     simplifyContour (layerOf size bitmap) t (begun table₀) e₀ .tried - tried
+
+contour : (s : tie.Start Inv-loop μ-loop) → Given (layerOf (s .args .size) (s .args .bitmap .now)) (s .args .first) (s .args .n)
+contour s = record { sound = s .pre .0; stick = s .pre .1 .1 .0; all = s .pre .1 .1 .1 .0 }
 
 -- Before the loop
 
@@ -36,21 +39,16 @@ array-write-edges c = search needs
 stick-at-requires : tie.Need-stick-at-requires Inv-loop μ-loop
 stick-at-requires c κs =
     let start = c .before .before .before .before in
-    let a = start .args in
     let given = start .pre in (
       given .0,
-      start-along (layerOf (a .size) (a .bitmap .now)) (given .0) (a .t) (a .first) (given .1 .1 .0) (a .n) (given .1 .1 .1 .0) (a .table .now)
-          (c .half-of .ensures) (given .1 .1 .1 .1),
+      start-along (contour start) (c .half-of .ensures) (given .1 .1 .1 .1),
     )
 
 loop-holds : tie.Need-loop-holds Inv-loop μ-loop
 loop-holds c =
     let halving = c .before in
     let start = halving .before .before .before .before in
-    let a = start .args in
-    let given = start .pre in
-    pending-start (layerOf (a .size) (a .bitmap .now)) (given .0) (a .t) (a .first) (given .1 .1 .0) (a .n) (given .1 .1 .1 .0) (a .table .now)
-    _ _ (halving .half-of .result) (c .stick-at .result) refl refl refl refl (halving .half-of .ensures) (c .stick-at .ensures)
+    pending-start (contour start) _ _ (halving .half-of .result) (c .stick-at .result) refl refl refl refl (halving .half-of .ensures) (c .stick-at .ensures)
 
 -- Where the run is tried
 
@@ -58,23 +56,16 @@ loop-holds c =
 small : (c : tie.At-loop Inv-loop μ-loop) → let l = c .loop in (l .removed ≤ 2095104) × (l .tried ≤ 4190208) × (l .p + l .m ≤ 2095104)
 small c =
     let start = c .before .before .before .before .before .before in
-    let a = start .args in
-    let given = start .pre in
-    let L = layerOf (a .size) (a .bitmap .now) in
     let i = c .loop .inv in
-    let most = n-small L (given .0) (a .t) (a .first) (given .1 .1 .0) (a .n) (given .1 .1 .1 .0) (a .table .now) in
-    let q = counts-small L (given .0) (a .t) (a .first) (given .1 .1 .0) (a .n) (given .1 .1 .1 .0) (a .table .now) i in
-    let r = inside L (given .0) (a .t) (a .first) (given .1 .1 .0) (a .n) (given .1 .1 .1 .0) (a .table .now) i in
-    (q .0, q .1, omega (arith, most, r))
+    let q = counts-small (contour start) i in
+    (q .0, q .1, omega (arith, n-small (contour start), inside (contour start) i))
 
 -- the run starts at a stick
 stick : (c : tie.At-loop Inv-loop μ-loop) → let a = c .before .before .before .before .before .before .args in
     isStick (layerOf (a .size) (a .bitmap .now)) (c .loop .e) ≡ true
 stick c =
     let start = c .before .before .before .before .before .before in
-    let a = start .args in
-    let given = start .pre in
-    stands (layerOf (a .size) (a .bitmap .now)) (given .0) (a .t) (a .first) (given .1 .1 .0) (a .n) (given .1 .1 .1 .0) (a .table .now) (c .loop .inv)
+    stands (contour start) (c .loop .inv)
 
 add-tried : tie.Need-add-tried Inv-loop μ-loop
 add-tried c = omega (arith, small c .1)
@@ -103,10 +94,7 @@ space : (c : tie.After-half-of2 Inv-loop μ-loop) → c .before .before .before 
 space c =
     let at-loop = c .before .before .before .before in
     let start = at-loop .before .before .before .before .before .before in
-    let a = start .args in
-    let given = start .pre in
-    room (layerOf (a .size) (a .bitmap .now)) (given .0) (a .t) (a .first) (given .1 .1 .0) (a .n) (given .1 .1 .1 .0) (a .table .now) (at-loop .loop .inv)
-    (failed (c .before)) (c .half-of2 .result) (c .half-of2 .ensures)
+    room (contour start) (at-loop .loop .inv) (failed (c .before)) (c .half-of2 .result) (c .half-of2 .ensures)
 
 mul-edges : tie.Need-mul-edges Inv-loop μ-loop
 mul-edges c = omega (arith, space c)
@@ -127,11 +115,9 @@ stick-at-requires-2 : tie.Need-stick-at-requires-2 Inv-loop μ-loop
 stick-at-requires-2 c κs =
     let at-loop = c .before .before .before .before in
     let start = at-loop .before .before .before .before .before .before in
-    let a = start .args in
     let given = start .pre in (
       given .0,
-      along (layerOf (a .size) (a .bitmap .now)) (given .0) (a .t) (a .first) (given .1 .1 .0) (a .n) (given .1 .1 .1 .0) (a .table .now) (at-loop .loop .inv)
-          (failed (c .before)) (c .half-of2 .result) (c .half-of2 .ensures) (given .1 .1 .1 .1),
+      along (contour start) (at-loop .loop .inv) (failed (c .before)) (c .half-of2 .result) (c .half-of2 .ensures) (given .1 .1 .1 .1),
     )
 
 loop-again : tie.Need-loop-again Inv-loop μ-loop
@@ -139,18 +125,14 @@ loop-again c =
     let halving = c .before in
     let at-loop = halving .before .before .before .before in
     let start = at-loop .before .before .before .before .before .before in
-    let a = start .args in
-    let given = start .pre in
-    pending-split (layerOf (a .size) (a .bitmap .now)) (given .0) (a .t) (a .first) (given .1 .1 .0) (a .n) (given .1 .1 .1 .0) (a .table .now) (at-loop .loop .inv)
-    (failed (halving .before)) (halving .half-of2 .result) (halving .half-of2 .ensures) (c .stick-at2 .result) (c .stick-at2 .ensures)
+    let half = halving .half-of2 in
+    let middle = c .stick-at2 in
+    pending-split (contour start) (at-loop .loop .inv) (failed (halving .before)) (half .result) (half .ensures) (middle .result) (middle .ensures)
 
 loop-less : tie.Need-loop-less Inv-loop μ-loop
 loop-less c =
     let start = c .before .before .before .before .before .before .before .before .before .before .before in
-    let a = start .args in
-    let given = start .pre in
-    let q = counts-small (layerOf (a .size) (a .bitmap .now)) (given .0) (a .t) (a .first) (given .1 .1 .0) (a .n) (given .1 .1 .1 .0) (a .table .now) (loop-again c) in
-    omega (arith, q .2)
+    omega (arith, counts-small (contour start) (loop-again c) .2)
 
 -- The run passes
 
@@ -179,10 +161,7 @@ returns c =
     let removing = c .before .before .before in
     let at-loop = removing .before .before .before .before .before in
     let start = at-loop .before .before .before .before .before .before in
-    let a = start .args in
-    let given = start .pre in
-    pending-last (layerOf (a .size) (a .bitmap .now)) (given .0) (a .t) (a .first) (given .1 .1 .0) (a .n) (given .1 .1 .1 .0) (a .table .now) (at-loop .loop .inv)
-    (passed (removing .before .before)) _ (removing .remove-inner .ensures) (c .if2 .taken)
+    pending-last (contour start) (at-loop .loop .inv) (passed (removing .before .before)) _ (removing .remove-inner .ensures) (c .if2 .taken)
 
 sub-top : tie.Need-sub-top Inv-loop μ-loop
 sub-top c = omega (arith, c .if2 .left)
@@ -195,10 +174,7 @@ stored : (c : tie.Else2 Inv-loop μ-loop) → c .before .before .before .before 
 stored c =
     let at-loop = c .before .before .before .before .before .before .before .before in
     let start = at-loop .before .before .before .before .before .before in
-    let a = start .args in
-    let given = start .pre in
-    let q = few (layerOf (a .size) (a .bitmap .now)) (given .0) (a .t) (a .first) (given .1 .1 .0) (a .n) (given .1 .1 .1 .0) (a .table .now) (at-loop .loop .inv) in
-    omega (arith, q)
+    omega (arith, few (contour start) (at-loop .loop .inv))
 
 mul-m : tie.Need-mul-m Inv-loop μ-loop
 mul-m c = omega (arith, stored c)
@@ -217,18 +193,13 @@ loop-again-2 c =
     let removing = c .before .before .before .before in
     let at-loop = removing .before .before .before .before .before in
     let start = at-loop .before .before .before .before .before .before in
-    let a = start .args in
-    let given = start .pre in
-    pending-next (layerOf (a .size) (a .bitmap .now)) (given .0) (a .t) (a .first) (given .1 .1 .0) (a .n) (given .1 .1 .1 .0) (a .table .now) (at-loop .loop .inv)
-    (passed (removing .before .before)) _ (removing .remove-inner .ensures) (omega (arith, c .before .if2 .left)) _ _ _ refl refl
+    pending-next (contour start) (at-loop .loop .inv) (passed (removing .before .before)) _ (removing .remove-inner .ensures)
+    (omega (arith, c .before .if2 .left)) _ _ _ refl refl
 
 loop-less-2 : tie.Need-loop-less-2 Inv-loop μ-loop
 loop-less-2 c =
     let start = c .before .before .before .before .before .before .before .before .before .before .before .before .before .before .before in
-    let a = start .args in
-    let given = start .pre in
-    let q = counts-small (layerOf (a .size) (a .bitmap .now)) (given .0) (a .t) (a .first) (given .1 .1 .0) (a .n) (given .1 .1 .1 .0) (a .table .now) (loop-again-2 c) in
-    omega (arith, q .2)
+    omega (arith, counts-small (contour start) (loop-again-2 c) .2)
 
 pub try-runs-spec : {M : Type 1} → statement M
 try-runs-spec =
