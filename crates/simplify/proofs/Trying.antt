@@ -193,84 +193,14 @@ module _ (L : Layer) (tolerance : ℕ) where
         whole = b .whole ∙ a .whole;
       }))
 
-  -- What the code finds of two runs in turn, each counted from 0 and each at its own depth
-
-  pub two-runs : (d : ℕ) (s : Progress) (e m : Edge) (h k : ℕ) → 1 ≤ h → h ≤ d → 1 ≤ k → k ≤ d → (p q : Progress)
-      → p ≡ tryRun L tolerance h (begun (s .table)) e h → q ≡ tryRun L tolerance k (begun (p .table)) m k
-      → onTop (onTop s p) q ≡ tryRun L tolerance d (tryRun L tolerance d s e h) m k
-  two-runs d s e m h k some-h most-h some-k most-k p q at-p at-q =
-      let first : p ≡ tryRun L tolerance d (begun (s .table)) e h = at-p ∙ try-deep h d (begun (s .table)) e h some-h (omega arith) (omega arith) most-h in
-      let second : q ≡ tryRun L tolerance d (begun (tryRun L tolerance d (begun (s .table)) e h .table)) m k =
-      at-q ∙ try-deep k d (begun (p .table)) m k some-k (omega arith) (omega arith) most-k
-      ∙ ap (λ (x : Progress). tryRun L tolerance d (begun (x .table)) m k) first in
-      (λ i. onTop (onTop s (first i)) (second i)) ∙ sym (try-two d s e m h k)
-
-  -- where the second of them ends
+  -- where the second part of a run ends
   pub end-of : (e m end : Edge) (n h : ℕ) → h ≤ n → m ≡ stickAfter L h e → end ≡ stickAfter L n e → end ≡ stickAfter L (n - h) m
   end-of e m end n h l at-m at-end =
       let sum : h + (n - h) ≡ n = omega arith in
       at-end ∙ ap (λ (k : ℕ). stickAfter L k e) (sym sum) ∙ ahead-add (walkOf L) h (n - h) e ∙ ap (stickAfter L (n - h)) (sym at-m)
-
-  -- a run that passes, and one that is split
-  pub run-passed : (t : List ℕ) (e : Edge) (n : ℕ) → 1 ≤ n → passes L t tolerance e n ≡ true
-      → record { table = foldl (without L) t (between L e n); removed = n - 1; tried = 1 } ≡ tryRun L tolerance n (begun t) e n
-  unfolding removeInner
-  run-passed t e n some h =
-      let depth : suc (n - 1) ≡ n = omega arith in
-      (λ i. record { table = foldl (without L) t (between L e n); removed = zero-more (n - 1) i; tried = zero-more 1 i })
-      ∙ sym (try-passes (n - 1) (begun t) e n h)
-      ∙ ap (λ (d : ℕ). tryRun L tolerance d (begun t) e n) depth
-    where
-      zero-more : (k : ℕ) → k ≡ 0 + k
-      zero-more k = omega arith
-
-  pub run-split : (t : List ℕ) (e m : Edge) (n h : ℕ) → passes L t tolerance e n ≡ false → h ≡ half n → m ≡ stickAfter L h e
-      → (p q : Progress) → p ≡ tryRun L tolerance h (begun t) e h → q ≡ tryRun L tolerance (n - h) (begun (p .table)) m (n - h)
-      → record { table = q .table; removed = p .removed + q .removed; tried = 1 + p .tried + q .tried } ≡ tryRun L tolerance n (begun t) e n
-  run-split t e m n h f at-h at-m p q at-p at-q =
-      let s = split L t tolerance e n f in
-      let depth : suc (n - 1) ≡ n = omega (arith, s) in
-      let at-half : m ≡ stickAfter L (half n) e = at-m ∙ ap (λ (k : ℕ). stickAfter L k e) at-h in
-      (λ i. record { table = q .table; removed = none-more (p .removed) (q .removed) i; tried = one-more (p .tried) (q .tried) i })
-      ∙ two-runs (n - 1) (oneTried (begun t)) e m h (n - h) (omega (arith, s)) (omega (arith, s)) (omega (arith, s)) (omega (arith, s)) p q at-p at-q
-      ∙ (λ i. tryRun L tolerance (n - 1) (tryRun L tolerance (n - 1) (oneTried (begun t)) e (at-h i)) (at-half i) (n - at-h i))
-      ∙ sym (try-splits (n - 1) (begun t) e n f)
-      ∙ ap (λ (d : ℕ). tryRun L tolerance d (begun t) e n) depth
-    where
-      none-more : (x y : ℕ) → x + y ≡ 0 + x + y
-      none-more x y = omega arith
-
-      one-more : (x y : ℕ) → 1 + x + y ≡ 0 + 1 + x + y
-      one-more x y = omega arith
 
   -- a contour
   pub contour-runs : (s : Progress) (f : Edge) → let n : ℕ = length (contourOf L f) in simplifyContour L tolerance s f
       ≡ tryRun L tolerance n (tryRun L tolerance n s f (half n)) (stickAfter L (half n) f) (n - half n)
   unfolding simplifyContour
   contour-runs s f = refl
-
-  pub contour-joined : (t : List ℕ) (f m : Edge) (n h : ℕ) → 2 ≤ n → n ≡ length (contourOf L f) → h ≡ half n → m ≡ stickAfter L h f
-      → (p q : Progress) → p ≡ tryRun L tolerance h (begun t) f h → q ≡ tryRun L tolerance (n - h) (begun (p .table)) m (n - h)
-      → record { table = q .table; removed = p .removed + q .removed; tried = p .tried + q .tried } ≡ simplifyContour L tolerance (begun t) f
-  contour-joined t f m n h more at-n at-h at-m p q at-p at-q =
-      let s = split-of n more in
-      (λ i. record { table = q .table; removed = none-more (p .removed) (q .removed) i; tried = none-more (p .tried) (q .tried) i })
-      ∙ two-runs n (begun t) f m h (n - h) (omega (arith, s)) (omega (arith, s)) (omega (arith, s)) (omega (arith, s)) p q at-p at-q
-      ∙ (λ i. tryRun L tolerance n (tryRun L tolerance n (begun t) f (at-h i)) ((at-m ∙ ap (λ (k : ℕ). stickAfter L k f) at-h) i) (n - at-h i))
-      ∙ (λ i. tryRun L tolerance (at-n i) (tryRun L tolerance (at-n i) (begun t) f (half (at-n i))) (stickAfter L (half (at-n i)) f) (at-n i - half (at-n i)))
-      ∙ sym (contour-runs (begun t) f)
-    where
-      none-more : (x y : ℕ) → x + y ≡ 0 + x + y
-      none-more x y = omega arith
-
-  pub within-of : (depth : ℕ) (t : List ℕ) (e : Edge) (n : ℕ) (p : Progress) → p ≡ tryRun L tolerance depth (begun t) e n → Within n (begun t) p
-  within-of depth t e n p at-p = rw at-p (try-within depth (begun t) e n)
-
-  -- the counts of two parts are small
-  pub parts-small : (t : List ℕ) (e m : Edge) (n h : ℕ) → Split n → h ≡ half n → n ≤ 2095104 → (p q : Progress)
-      → p ≡ tryRun L tolerance h (begun t) e h → q ≡ tryRun L tolerance (n - h) (begun (p .table)) m (n - h)
-      → (p .removed + q .removed ≤ 2095104) × (p .tried + q .tried ≤ 4190208)
-  parts-small t e m n h s at-h small p q at-p at-q =
-      let first = within-of h t e h p at-p in
-      let second = within-of (n - h) (p .table) m (n - h) q at-q in
-      (omega (arith, s, first, second), omega (arith, s, first, second))

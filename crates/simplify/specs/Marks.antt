@@ -1,11 +1,11 @@
--- Marks along a contour: the numbers of its sticks at equal distances, from a first one on.
+-- Marks along a contour: the numbers of its sticks at equal distances, from its first one on.
 use mathlib.Core.Path.{_≡_}
 use mathlib.Core.Bool.{true}
 use mathlib.Core.List.{List}
-use Prim.Native.Nat.{ℕ, _*_, _<_}
+use Prim.Native.Nat.{ℕ, _+_, _*_, _<_}
 use lib.ListN.{length, getD}
 use Rattle.grid.specs.Layer.{Layer}
-use Rattle.grid.specs.Edges.{number, edgeAt, isStick}
+use Rattle.grid.specs.Edges.{number, isStick}
 use Rattle.grid.specs.declared.edge.Edge.{Edge}
 use Rattle.contour.specs.Contours.{contourOf}
 use Rattle.simplify.specs.Runs.{stickAfter}
@@ -14,13 +14,14 @@ use Rattle.simplify.specs.Runs.{stickAfter}
 abbrev pub places : ℕ
 places = 32736
 
--- the stick from which they go on: the first mark is its number
-abbrev pub origin : Layer → List ℕ → Edge
-origin L marks = edgeAt (L .size) (getD marks 0 0)
+-- mark k is the number of the stick 64 * k steps on from f, as far as there are marks and sticks
+abbrev pub Marked : Layer → Edge → List ℕ → Type 0
+Marked L f marks = (k : ℕ) → k < length marks → k * 64 < length (contourOf L f) → getD marks k 0 ≡ number (L .size) (stickAfter L (k * 64) f)
 
--- mark k is the number of the stick 64 * k steps on, all along the contour
-pub record Marked (L : Layer) (marks : List ℕ) : Type 0 where
-  pub sized : length marks ≡ places
-  pub stick : isStick L (origin L marks) ≡ true
-  pub says : (k : ℕ) → k * 64 < length (contourOf L (origin L marks))
-      → getD marks k 0 ≡ number (L .size) (stickAfter L (k * 64) (origin L marks))
+-- e is p steps on from where the marks start, and h steps on from e the contour is not yet all walked
+pub record Along (L : Layer) (marks : List ℕ) (e : Edge) (p h : ℕ) : Type 0 where
+  pub from : Edge
+  pub stick : isStick L from ≡ true
+  pub marked : Marked L from marks
+  pub here : e ≡ stickAfter L p from
+  pub inside : p + h < length (contourOf L from)

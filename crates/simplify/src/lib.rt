@@ -2,7 +2,6 @@
 // n log n at most.
 mod call;
 mod contours;
-mod long;
 mod marks;
 mod run;
 mod tries;

@@ -7,14 +7,13 @@ use grid::edge_at;
 use grid::number_of;
 ghost use mathlib.Core.Path.{_≡_};
 ghost use mathlib.Core.Bool.{true};
-ghost use Prim.Native.Nat.{_<_};
 ghost use lib.ListN.{length};
 ghost use Rattle.grid.specs.Layer.{layerOf};
 ghost use Rattle.grid.specs.Edges.{isStick};
 ghost use Rattle.grid.specs.Questions.{Sound};
 ghost use Rattle.contour.specs.Contours.{contourOf};
 ghost use Rattle.simplify.specs.Runs.{stickAfter};
-ghost use Rattle.simplify.specs.Marks.{places, origin, Marked};
+ghost use Rattle.simplify.specs.Marks.{places, Marked, Along};
 
 // How many marks there is room for: a contour has at most 2,095,104 sticks, and one in 64 is marked.
 pub const PLACES: usize = 32736;
@@ -28,8 +27,8 @@ pub fn put_marks(size: Size, bitmap: &[u8], first: Edge, n: usize, marks: &mut [
     requires { ⌜ isStick (layerOf size (now bitmap)) first ≡ true ⌝ }
     requires { ⌜ n ≡ length (contourOf (layerOf size (now bitmap)) first) ⌝ }
     requires { ⌜ length (now marks) ≡ places ⌝ }
-    ensures { λ r. ⌜ origin (layerOf size (now (bitmap .entry))) (now (marks .exit)) ≡ first ⌝ }
-    ensures { λ r. ⌜ Marked (layerOf size (now (bitmap .entry))) (now (marks .exit)) ⌝ }
+    ensures { λ r. ⌜ length (now (marks .exit)) ≡ places ⌝ }
+    ensures { λ r. ⌜ Marked (layerOf size (now (bitmap .entry))) first (now (marks .exit)) ⌝ }
 {
     let mut at = first;
     let mut k: usize = 0;
@@ -40,20 +39,26 @@ pub fn put_marks(size: Size, bitmap: &[u8], first: Edge, n: usize, marks: &mut [
     }
 }
 
-fn widen(x: u32) -> usize
+pub fn widen(x: u32) -> usize
     ensures { λ r. ⌜ r ≡ x ⌝ }
 {
     x as usize
 }
 
-// The stick p steps on from where the marks start.
-pub fn stick_at(size: Size, bitmap: &[u8], marks: &[u32; PLACES], p: usize) -> Edge
+// The stick h steps on from e, which is p steps on from where the marks start: from the mark before it, where e is farther away.
+pub fn stick_at(size: Size, bitmap: &[u8], marks: &[u32], e: Edge, p: usize, h: usize) -> Edge
     requires { ⌜ Sound (layerOf size (now bitmap)) ⌝ }
-    requires { ⌜ Marked (layerOf size (now bitmap)) (now marks) ⌝ }
-    requires { ⌜ p < length (contourOf (layerOf size (now bitmap)) (origin (layerOf size (now bitmap)) (now marks))) ⌝ }
-    ensures { λ r. ⌜ r ≡ stickAfter (layerOf size (now (bitmap .entry))) p (origin (layerOf size (now (bitmap .entry))) (now (marks .entry))) ⌝ }
+    requires { ⌜ Along (layerOf size (now bitmap)) (now marks) e p h ⌝ }
+    ensures { λ r. ⌜ r ≡ stickAfter (layerOf size (now (bitmap .entry))) h e ⌝ }
 {
-    let k = p / APART;
+    let place = p + h;
+    let k = place / APART;
+    if h < APART {
+        return stick_after(size, bitmap, e, h);
+    }
+    if marks.len() <= k {
+        return stick_after(size, bitmap, e, h);
+    }
     let near = edge_at(size, widen(marks[k]));
-    stick_after(size, bitmap, near, p % APART)
+    stick_after(size, bitmap, near, place % APART)
 }

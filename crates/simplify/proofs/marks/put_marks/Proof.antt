@@ -1,18 +1,16 @@
 -- `put_marks` meets its contract. The invariant: so many marks are put, and the walk stands where the next one belongs.
 use mathlib.Core.Path.{_≡_, sym}
 use mathlib.Core.Bool.{true}
-use Prim.Native.Nat.{_+_, _-_, _*_, _≤_, _<_}
+use Prim.Native.Nat.{_+_, _-_, _*_, _<_}
 use native.Mathlib.Omega.{arith}
 use borrow.Author.Needs.{needs}
-use lib.ListN.{length}
 use Rattle.grid.specs.Layer.{layerOf}
 use Rattle.grid.specs.Edges.{isStick}
 use Rattle.grid.proofs.Numbers.{edges-small}
-use Rattle.contour.specs.Contours.{contourOf}
 use Rattle.contour.proofs.Sticks.{laws, stick-in}
 use Rattle.simplify.specs.Runs.{stickAfter}
 use Rattle.simplify.proofs.Steps.{stick-none, steps-on, stick-on, most-sticks}
-use Rattle.simplify.proofs.Marking.{Put, put-none, put-one, mark-room, put-origin, put-all}
+use Rattle.simplify.proofs.Marking.{Put, put-none, put-one, mark-room, put-all}
 use Rattle.simplify.proofs.marks.put_marks.Statement.{statement}
 use Rattle.simplify.proofs.marks.put_marks.Tie as tie
 
@@ -107,10 +105,7 @@ returns c =
     let given = start .pre in
     let L = layerOf (a .size) (a .bitmap .now) in
     let loop = c .before .loop in
-    let all : length (contourOf L (a .first)) ≤ loop .k * 64 = omega (arith, c .loop-test .left, given .1 .1 .0) in (
-      put-origin L (given .0) (a .first) (loop .k) (loop .marks) (given .1 .0) all (loop .inv .0),
-      put-all L (given .0) (a .first) (loop .k) (loop .marks) (given .1 .0) all (loop .inv .0),
-    )
+    (loop .inv .0 .sized, put-all L (given .0) (a .first) (loop .k) (loop .marks) (omega (arith, c .loop-test .left, given .1 .1 .0)) (loop .inv .0))
 
 pub put-marks-spec : {M : Type 1} → statement M
 put-marks-spec =
