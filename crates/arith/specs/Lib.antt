@@ -4,6 +4,5 @@ pub mod Lists
 pub mod Ranges
 pub mod Finite
 pub mod Integers
-pub mod Ring
 pub mod Bounds
 pub mod Nearest
