@@ -1,8 +1,7 @@
--- Laws on numbers and lists that more than one crate cites.
+-- Definitions on numbers and lists that more than one crate cites.
 pub mod Booleans
 pub mod Lists
 pub mod Ranges
 pub mod Finite
 pub mod Integers
-pub mod Bounds
 pub mod Nearest

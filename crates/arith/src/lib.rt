@@ -1,1 +1,1 @@
-// Laws on numbers and lists that more than one crate cites. There is no code here: see specs/.
+// Numbers and lists, for more than one crate: definitions in specs/, laws in proofs/. There is no code here.

@@ -10,7 +10,7 @@ use native.Mathlib.Decide.{ℕ-discrete, decLt, decLe}
 use native.Mathlib.Omega.{arith}
 use borrow.Author.Tests.{ltb-true, lt-ltb}
 use lib.Dec.{ltb}
-use Rattle.arith.specs.Booleans.{and-split}
+use Rattle.arith.proofs.Booleans.{and-split}
 use Rattle.grid.specs.declared.edge.Edge.{Edge}
 use Rattle.chord.specs.Points.{Position, start, Point, point, On, Meets, Crosses}
 use Rattle.chord.specs.Crossing.{along, across, base, line, off, parted, meeting, total, crosses}

@@ -8,7 +8,7 @@ use native.Mathlib.Nat.{mul-comm, le-of-mul-le-mul-right, mul-le-mul-right}
 use native.Mathlib.Omega.{arith}
 use borrow.Author.Tests.{leb-true, le-leb}
 use lib.IntN.{ℤ, pos, negℤ, natAbs, _-ℤ_}
-use Rattle.arith.specs.Integers.{add-parts, neg-parts, natAbs-parts}
+use Rattle.arith.proofs.Integers.{add-parts, neg-parts, natAbs-parts}
 use Rattle.grid.specs.declared.edge.Edge.{Edge}
 use Rattle.chord.specs.Points.{Position, Point, On, slide, SlidesWithin}
 use Rattle.chord.specs.Crossing.{base, line, distance, parted, meeting, total, slidesWithin}

@@ -4,7 +4,7 @@ use mathlib.Core.Path.{_≡_}
 use mathlib.Core.Logic.{_↔_, _≢_}
 use mathlib.Core.Bool.{true, _&&_}
 use Prim.Native.Nat.{ℕ, _<_}
-use Rattle.arith.specs.Booleans.{and-split}
+use Rattle.arith.proofs.Booleans.{and-split}
 use Rattle.grid.specs.declared.edge.Edge.{Edge}
 use Rattle.chord.specs.Points.{Position, position, Point, Meets, Crosses, SlidesWithin, MeetsWithin, CrossesWithin}
 use Rattle.chord.specs.Crossing.{crosses, slidesWithin}

@@ -7,7 +7,7 @@ use native.Mathlib.Decide.{ℕ-discrete, decLt}
 use native.Mathlib.Nat.{mul-comm, mul-le-mul-left, eq-of-mul-eq-mul-left, le-of-mul-le-mul-left}
 use native.Mathlib.Omega.{arith}
 use lib.IntN.{ℤ, pos, negsuc, natAbs, _-ℤ_, _*ℤ_}
-use Rattle.arith.specs.Integers.{arithℤ, ints, toℕ, viaℕ}
+use Rattle.arith.proofs.Integers.{arithℤ, ints, toℕ, viaℕ}
 use Rattle.grid.specs.declared.edge.Edge.{Edge}
 use Rattle.chord.specs.Points.{Position, Point, point, Between, On}
 use Rattle.chord.specs.Crossing.{along, across}

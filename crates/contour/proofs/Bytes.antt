@@ -6,8 +6,9 @@ use native.Mathlib.Decide.{decLt}
 use native.Mathlib.Omega.{arith}
 use borrow.Author.Tests.{lt-ltb, le-ltb, ltb-true}
 use lib.Dec.{ltb}
-use Rattle.arith.specs.Booleans.{and-split}
-use Rattle.arith.specs.Ranges.{least, leastFrom-holds, leastFrom-below}
+use Rattle.arith.proofs.Booleans.{and-split}
+use Rattle.arith.specs.Ranges.{least}
+use Rattle.arith.proofs.Ranges.{leastFrom-holds, leastFrom-below}
 use Rattle.grid.specs.Layer.{Layer, bit}
 use Rattle.grid.specs.Edges.{isStick, Marks}
 use Rattle.contour.proofs.Words.{bit-shift, bit-zero, bit-end}

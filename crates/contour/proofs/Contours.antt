@@ -8,8 +8,9 @@ use native.Mathlib.Nat.{add-zero}
 use native.Mathlib.Decide.{ℕ-discrete}
 use native.Mathlib.Omega.{arith}
 use lib.ListN.{length, getD, length-map}
-use Rattle.arith.specs.Booleans.{asNumber, both-sides}
-use Rattle.arith.specs.Finite.{sum-same, count-more, count-sum}
+use Rattle.arith.specs.Booleans.{asNumber}
+use Rattle.arith.proofs.Booleans.{both-sides}
+use Rattle.arith.proofs.Finite.{sum-same, count-more, count-sum}
 use Rattle.arith.specs.Ranges.{count}
 use Rattle.contour.specs.Walk.{Walk, Laws, contour, occurrences, seen, first, firstsAmong, firsts, contours, walked, consIf}
 use Rattle.contour.proofs.Orbit.{same-true}

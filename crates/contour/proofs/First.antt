@@ -10,7 +10,8 @@ use native.Mathlib.Decide.{decLe, decLt}
 use native.Mathlib.Omega.{arith}
 use borrow.Author.Tests.{eqb-true, eq-eqb, lt-ltb, le-ltb}
 use lib.Dec.{eqb}
-use Rattle.arith.specs.Booleans.{asNumber, both-sides}
+use Rattle.arith.specs.Booleans.{asNumber}
+use Rattle.arith.proofs.Booleans.{both-sides}
 use Rattle.contour.specs.Walk.{Walk, Laws, contour, occurrences, On, lowest, low, first, seen}
 use Rattle.contour.proofs.Members.{once, on-self, on-one, on-swap, on-trans}
 

@@ -9,17 +9,19 @@ use Prim.Native.Nat.{ℕ, _+_, _-_, _≤_, _<_}
 use native.Mathlib.Decide.{decLt}
 use native.Mathlib.Omega.{arith}
 use lib.ListN.{length}
-use Rattle.arith.specs.Booleans.{both-sides}
-use Rattle.arith.specs.Ranges.{count, count-past, count-same}
-use Rattle.arith.specs.Finite.{Least, least-from}
+use Rattle.arith.proofs.Booleans.{both-sides}
+use Rattle.arith.specs.Ranges.{count}
+use Rattle.arith.proofs.Ranges.{count-past, count-same}
+use Rattle.arith.specs.Finite.{Least}
+use Rattle.arith.proofs.Finite.{least-from}
 use Rattle.grid.specs.Layer.{Layer}
 use Rattle.grid.specs.Edges.{edgeAt, edgeCount, kindStart, isStick}
 use Rattle.grid.specs.Questions.{Sound}
 use Rattle.grid.specs.declared.edge.Edge.{Edge}
+use Rattle.grid.proofs.Numbers.{kind-below}
 use Rattle.contour.specs.Walk.{first, firstsAmong, firstsFrom, contoursFrom, nextFirst}
 use Rattle.contour.specs.Contours.{walkOf, contourOf, firstSticks, contoursOf, contourCount}
 use Rattle.contour.specs.Sets.{words, places, has, FirstSet, nextIn, sizeOf}
-use Rattle.grid.proofs.Numbers.{kind-below}
 use Rattle.contour.proofs.First.{first-one}
 use Rattle.contour.proofs.Contours.{length-contours}
 use Rattle.contour.proofs.Outer.{from-end, from-first, from-skip, next-first, next-unique, all-start, all-skip, all-turn, all-end}

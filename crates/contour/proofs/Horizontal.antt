@@ -6,7 +6,7 @@ use mathlib.Core.Bool.{Bool, true, false, true≢false, false≢true, cond, not}
 use Prim.Native.Nat.{ℕ, zero, suc, _+_, _-_, _*_, _≤_, _<_}
 use native.Mathlib.Decide.{ℕ-discrete}
 use native.Mathlib.Omega.{arith}
-use Rattle.arith.specs.Booleans.{both-sides}
+use Rattle.arith.proofs.Booleans.{both-sides}
 use Rattle.grid.specs.Layer.{Layer}
 use Rattle.grid.specs.Edges.{isStick, number, kindStart, edgeColumns, edgeRows}
 use Rattle.grid.specs.Questions.{Sound}

@@ -8,8 +8,9 @@ use Prim.Native.Nat.{ℕ, zero, suc, _+_, _-_, _≤_, _<_}
 use native.Mathlib.Nat.{add-zero, eq-zero-or-pos}
 use native.Mathlib.Decide.{decLt, ℕ-discrete}
 use native.Mathlib.Omega.{arith}
-use Rattle.arith.specs.Booleans.{asNumber, both-sides}
-use Rattle.arith.specs.Finite.{asNumber-inj, asNumber-above}
+use Rattle.arith.specs.Booleans.{asNumber}
+use Rattle.arith.proofs.Booleans.{both-sides}
+use Rattle.arith.proofs.Finite.{asNumber-inj, asNumber-above}
 use Rattle.contour.specs.Walk.{Walk, Laws, contour, occurrences, On, low, first, seen}
 use Rattle.contour.specs.Marking.{Marked}
 use Rattle.contour.proofs.Orbit.{same-true}

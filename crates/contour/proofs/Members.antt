@@ -8,8 +8,10 @@ use Prim.Native.Nat.{ℕ, zero, suc, _+_, _-_, _≤_, _<_}
 use native.Mathlib.Nat.{eq-or-lt-of-le, eq-zero-or-pos}
 use native.Mathlib.Omega.{arith}
 use lib.ListN.{length, getD}
-use Rattle.arith.specs.Booleans.{asNumber, both-sides}
-use Rattle.arith.specs.Finite.{sum, sum-same, sum-add, sum-none, sum-single}
+use Rattle.arith.specs.Booleans.{asNumber}
+use Rattle.arith.proofs.Booleans.{both-sides}
+use Rattle.arith.specs.Finite.{sum}
+use Rattle.arith.proofs.Finite.{sum-same, sum-add, sum-none, sum-single}
 use Rattle.contour.specs.Walk.{Walk, Laws, contour, occurrences, On, ahead}
 use Rattle.contour.proofs.Orbit.{run, ahead-next, ahead-add, same-true, same-false, ahead-one, round, contour-run}
 

@@ -9,8 +9,9 @@ use native.Mathlib.Nat.{zero-add, suc-add}
 use native.Mathlib.Decide.{decLe}
 use native.Mathlib.Omega.{arith}
 use lib.ListN.{length, getD}
-use Rattle.arith.specs.Booleans.{both-sides}
-use Rattle.arith.specs.Finite.{pigeonhole, Least, least-from}
+use Rattle.arith.proofs.Booleans.{both-sides}
+use Rattle.arith.proofs.Finite.{pigeonhole, least-from}
+use Rattle.arith.specs.Finite.{Least}
 use Rattle.arith.specs.Ranges.{leastFrom}
 use Rattle.contour.specs.Walk.{Walk, Laws, path, rest, contour, ahead, Round}
 

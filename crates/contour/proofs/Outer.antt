@@ -7,7 +7,7 @@ use Prim.Native.Nat.{ℕ, zero, suc, _+_, _-_, _≤_, _<_}
 use native.Mathlib.Nat.{add-zero}
 use native.Mathlib.Decide.{decLt}
 use native.Mathlib.Omega.{arith}
-use Rattle.arith.specs.Finite.{least-from}
+use Rattle.arith.proofs.Finite.{least-from}
 use Rattle.contour.specs.Walk.{Walk, contour, first, firstsAmong, firstsFrom, contoursFrom, contours, nextFirst}
 use Rattle.contour.proofs.Contours.{among-none, among-first, among-other}
 

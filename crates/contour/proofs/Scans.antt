@@ -9,17 +9,17 @@ use native.Mathlib.Nat.{mul-le-mul}
 use native.Mathlib.Omega.{arith}
 use borrow.Author.Tests.{lt-ltb, le-ltb}
 use lib.ListN.{length}
-use Rattle.arith.specs.Booleans.{both-sides}
+use Rattle.arith.proofs.Booleans.{both-sides}
 use Rattle.grid.specs.Layer.{Layer}
 use Rattle.grid.specs.Edges.{isStick, number, edgeAt, edgeCount, kindStart}
 use Rattle.grid.specs.Questions.{Sized, Sound}
 use Rattle.grid.specs.declared.layer.Size.{Size}
 use Rattle.grid.specs.declared.edge.Edge.{Edge}
+use Rattle.grid.proofs.Numbers.{in-grid, kind-below, edgeAt-number}
 use Rattle.contour.specs.Walk.{first}
 use Rattle.contour.specs.Contours.{walkOf, contourOf}
 use Rattle.contour.specs.Sets.{words, places, has, Empty, FirstSet}
 use Rattle.contour.specs.Marking.{with, without, markEdge, horizontal, Scanned}
-use Rattle.grid.proofs.Numbers.{in-grid, kind-below, edgeAt-number}
 use Rattle.contour.proofs.Members.{on-one}
 use Rattle.contour.proofs.Sticks.{laws}
 use Rattle.contour.proofs.Horizontal.{horizontal-low, first-horizontal}

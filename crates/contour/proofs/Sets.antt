@@ -9,12 +9,13 @@ use native.Mathlib.Omega.{arith}
 use lib.Bits.{bitOr, bitXor}
 use lib.ListN.{length, getD, set, length-set, replicate, length-replicate, getD-replicate, List·getD-eq-default}
 use lib.Seq.{getD-set-same, getD-set-other}
-use Rattle.arith.specs.Ranges.{count, count-add, count-same, leastFrom, leastFrom-is, leastFrom-none, leastFrom-le, leastFrom-below, leastFrom-holds}
-use Rattle.arith.specs.Finite.{least-from}
+use Rattle.arith.specs.Ranges.{count, leastFrom}
+use Rattle.arith.proofs.Ranges.{count-add, count-same, leastFrom-is, leastFrom-none, leastFrom-le, leastFrom-below, leastFrom-holds}
+use Rattle.arith.proofs.Finite.{least-from}
 use Rattle.grid.specs.Layer.{bit}
+use Rattle.grid.proofs.Masks.{bit-xor}
 use Rattle.contour.specs.Sets.{words, places, has, Empty}
 use Rattle.contour.specs.Marking.{with, without}
-use Rattle.grid.proofs.Masks.{bit-xor}
 use Rattle.contour.proofs.Words.{bit-or, bit-power, bit-power-other, bit-zero}
 
 -- a word stored: the numbers of that word are read from it, and no other changes

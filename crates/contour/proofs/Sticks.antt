@@ -3,15 +3,15 @@ use mathlib.Core.Path.{_≡_, refl}
 use mathlib.Core.Bool.{Bool, true, false, _&&_, Bool·beq, xor}
 use borrow.Author.Tests.{eqb-true, eq-eqb}
 use lib.Dec.{T, eqb}
-use Rattle.arith.specs.Booleans.{and-split, beq→eq}
+use Rattle.arith.proofs.Booleans.{and-split, beq→eq}
 use Rattle.grid.specs.Layer.{Layer}
 use Rattle.grid.specs.Edges.{isStick, inGrid, firstEnd, secondEnd}
 use Rattle.grid.specs.Questions.{Sound}
 use Rattle.grid.specs.declared.edge.Edge.{Edge}
-use Rattle.contour.specs.Walk.{Laws}
-use Rattle.contour.specs.Contours.{walkOf, sameEdge}
 use Rattle.grid.proofs.Numbers.{number-below, edgeAt-number, edgeAt-within}
 use Rattle.step.proofs.Walks.{next-stick, prev-stick, prev-next, next-prev}
+use Rattle.contour.specs.Walk.{Laws}
+use Rattle.contour.specs.Contours.{walkOf, sameEdge}
 
 T-of : {b : Bool} → b ≡ true → T b
 T-of e = rw e tt

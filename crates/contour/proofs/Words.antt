@@ -10,8 +10,10 @@ use lib.Bits.{bitOr, or-shr, or-mod}
 use lib.Count.{ones, onesIn, ones-step, trailingZeros, under}
 use lib.Dec.{eqb}
 use lib.Pow.{shr-shr, shl-shr, shl-exact, pow-add, pow-lt}
-use Rattle.arith.specs.Booleans.{asNumber, both-sides}
-use Rattle.arith.specs.Ranges.{count, count-add, count-same, least, leastFrom, leastFrom-is, leastFrom-none, leastFrom-holds, leastFrom-below, leastFrom-same}
+use Rattle.arith.specs.Booleans.{asNumber}
+use Rattle.arith.proofs.Booleans.{both-sides}
+use Rattle.arith.specs.Ranges.{count, least, leastFrom}
+use Rattle.arith.proofs.Ranges.{count-add, count-same, leastFrom-is, leastFrom-none, leastFrom-holds, leastFrom-below, leastFrom-same}
 use Rattle.grid.specs.Layer.{bit}
 use Rattle.grid.proofs.Masks.{bit-past}
 

@@ -5,7 +5,7 @@ use mathlib.Core.Logic.{_≢_}
 use mathlib.Core.Bool.{Bool, true, false, true≢false, not, xor, _&&_, _||_, Bool·beq}
 use Prim.Native.Nat.{ℕ}
 use lib.Dec.{T, eqb-refl}
-use Rattle.arith.specs.Booleans.{both-sides, T-true, and-T, implied}
+use Rattle.arith.proofs.Booleans.{both-sides, T-true, and-T, implied}
 use Rattle.grid.specs.Layer.{Layer}
 use Rattle.grid.specs.Edges.{isStick}
 use Rattle.grid.specs.Questions.{Sound}

@@ -6,10 +6,11 @@ use mathlib.Core.List.{List, [], _∷_, _++_, map, flatten}
 use Prim.Native.Nat.{ℕ, zero, suc, _*_, _<_}
 use native.Mathlib.Omega.{arith}
 use lib.ListN.{length, getD, length-map}
-use Rattle.arith.specs.Booleans.{asNumber, both-sides}
+use Rattle.arith.specs.Booleans.{asNumber}
+use Rattle.arith.proofs.Booleans.{both-sides}
 use Rattle.arith.specs.Lists.{among}
 use Rattle.arith.specs.Ranges.{count}
-use Rattle.arith.specs.Finite.{sum-same, count-sum}
+use Rattle.arith.proofs.Finite.{sum-same, count-sum}
 use Rattle.grid.specs.Layer.{Layer}
 use Rattle.grid.specs.Edges.{isStick, edgeAt, edgeCount}
 use Rattle.grid.specs.Questions.{Sound}

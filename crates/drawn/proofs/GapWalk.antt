@@ -14,7 +14,7 @@ use borrow.Author.Count.{below-more}
 use borrow.Author.Tests.{not-true, not-false}
 use lib.ListN.{length}
 use Rattle.arith.specs.Ranges.{leastFrom}
-use Rattle.arith.specs.Finite.{least-from}
+use Rattle.arith.proofs.Finite.{least-from}
 use Rattle.grid.specs.Layer.{Layer}
 use Rattle.grid.specs.Edges.{number, edgeAt, edgeCount, isStick}
 use Rattle.grid.specs.Questions.{Sound}

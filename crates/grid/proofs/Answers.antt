@@ -8,8 +8,9 @@ use borrow.Author.Tests.{lt-ltb, le-ltb, leb-true, ltb-false, eqb-true}
 use lib.Arith.{digits-div, digits-mod, digits-lt}
 use lib.Dec.{leb, ltb, eqb}
 use lib.ListN.{length}
-use Rattle.arith.specs.Booleans.{both-sides, and-split}
-use Rattle.arith.specs.Ranges.{least, least-is, least-none, leastFrom-below, leastFrom-le}
+use Rattle.arith.proofs.Booleans.{both-sides, and-split}
+use Rattle.arith.specs.Ranges.{least}
+use Rattle.arith.proofs.Ranges.{least-is, least-none, leastFrom-below, leastFrom-le}
 use Rattle.grid.specs.Layer.{Layer, stride}
 use Rattle.grid.specs.Questions.{numberOf, firstNo, ask, askEach, inRange, sidesAnswer, lengthAnswer, spareSet, spareAnswer, borderIn, borderAt, borderAnswer, layerQuestions, Sized, Whole, Sound}
 use Rattle.grid.specs.declared.layer.Size.{Size}

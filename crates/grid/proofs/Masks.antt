@@ -12,7 +12,7 @@ use lib.Bits.{bitXor, xor-shr, xor-mod}
 use lib.Dec.{eqb, ltb}
 use lib.ListN.{getD}
 use lib.Pow.{shr-shr, pow-mono}
-use Rattle.arith.specs.Booleans.{both-sides}
+use Rattle.arith.proofs.Booleans.{both-sides}
 use Rattle.grid.specs.Layer.{Layer, stride, rowByte, bit, sample, follows}
 use Rattle.grid.specs.Edges.{isStick, Marks}
 use Rattle.grid.specs.Questions.{Whole, Sound, spareSet}

@@ -8,7 +8,7 @@ use native.Mathlib.Omega.{arith}
 use borrow.Author.Tests.{ltb-true, lt-ltb, le-ltb}
 use lib.Arith.{digits-lt, digits-div, digits-mod}
 use lib.Dec.{ltb}
-use Rattle.arith.specs.Booleans.{both-sides, and-split}
+use Rattle.arith.proofs.Booleans.{both-sides, and-split}
 use Rattle.grid.specs.Layer.{stride}
 use Rattle.grid.specs.Edges.{edgeColumns, edgeRows, inGrid, kindStart, rowStart, number, edgeCount, edgeIn, edgeAt}
 use Rattle.grid.specs.Questions.{Sized}

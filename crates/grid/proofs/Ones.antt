@@ -11,7 +11,8 @@ use lib.Count.{ones, ones-step}
 use lib.Dec.{eqb}
 use lib.Pow.{shr-shr}
 use Rattle.arith.specs.Booleans.{asNumber}
-use Rattle.arith.specs.Ranges.{count, count-add, count-same, count-none}
+use Rattle.arith.specs.Ranges.{count}
+use Rattle.arith.proofs.Ranges.{count-add, count-same, count-none}
 use Rattle.grid.specs.Layer.{Layer, stride, rowByte, bit, sample, sampleIn, sampleAt}
 use Rattle.grid.specs.Edges.{edgeColumns, edgeRows, edgeCount, edgeIn, edgeAt, inGrid, isStick, stickIn, stickOf, stickAt, Marks}
 use Rattle.grid.specs.Questions.{Sized, Sound}

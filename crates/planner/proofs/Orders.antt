@@ -9,7 +9,8 @@ use lib.Dec.{leb}
 use lib.Ieee.{Float}
 use lib.ListN.{length, length-append, length-map}
 use Rattle.arith.specs.Booleans.{asNumber}
-use Rattle.arith.specs.Finite.{sum, sum-same, sum-add, sum-none, sum-single}
+use Rattle.arith.specs.Finite.{sum}
+use Rattle.arith.proofs.Finite.{sum-same, sum-add, sum-none, sum-single}
 use Rattle.grid.specs.Layer.{Layer}
 use Rattle.grid.specs.Edges.{isStick, number, edgeAt, edgeCount}
 use Rattle.grid.specs.Questions.{Sound, ask}

@@ -8,7 +8,8 @@ use borrow.Author.Tests.{le-leb, lt-leb}
 use lib.Dec.{leb}
 use lib.Ieee.{Float}
 use lib.ListN.{length, length-map}
-use Rattle.arith.specs.Ranges.{count, count-le}
+use Rattle.arith.specs.Ranges.{count}
+use Rattle.arith.proofs.Ranges.{count-le}
 use Rattle.grid.specs.Layer.{Layer}
 use Rattle.grid.specs.Questions.{firstNo, ask}
 use Rattle.grid.specs.declared.edge.Edge.{Edge}

@@ -6,7 +6,7 @@ use Prim.Native.Nat.{ℕ}
 use native.Mathlib.Omega.{arith}
 use lib.Dec.{ltb}
 use lib.ListN.{length}
-use Rattle.arith.specs.Booleans.{both-sides}
+use Rattle.arith.proofs.Booleans.{both-sides}
 use Rattle.grid.specs.Layer.{Layer}
 use Rattle.held.specs.Questions as Held
 use Rattle.faithful.proofs.Faithful.{faithful}

@@ -5,7 +5,7 @@ use mathlib.Core.List.{List, [], _∷_}
 use Prim.Native.Nat.{ℕ, _≤_, _<_}
 use borrow.Author.Tests.{le-leb, lt-leb}
 use lib.Dec.{leb}
-use Rattle.arith.specs.Booleans.{and-split}
+use Rattle.arith.proofs.Booleans.{and-split}
 use Rattle.arith.specs.Lists.{among}
 use Rattle.grid.specs.Layer.{Layer}
 use Rattle.grid.specs.Questions.{firstNo}

@@ -6,7 +6,7 @@ use mathlib.Core.List.{List}
 use Prim.Native.Nat.{ℕ, zero, suc, _-_, _≤_, _<_}
 use native.Mathlib.Omega.{arith}
 use lib.ListN.{length}
-use Rattle.arith.specs.Booleans.{both-sides}
+use Rattle.arith.proofs.Booleans.{both-sides}
 use Rattle.arith.specs.Lists.{each}
 use Rattle.grid.specs.Layer.{Layer}
 use Rattle.grid.specs.Edges.{isStick, edgeCount}

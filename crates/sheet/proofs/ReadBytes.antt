@@ -9,7 +9,8 @@ use native.Mathlib.Omega.{arith}
 use borrow.Author.Tests.{eqb-true, eq-eqb}
 use lib.Dec.{eqb}
 use lib.ListN.{length, getD, List·getD-eq-default}
-use Rattle.arith.specs.Booleans.{asNumber, both-sides, and-split}
+use Rattle.arith.specs.Booleans.{asNumber}
+use Rattle.arith.proofs.Booleans.{both-sides, and-split}
 use Rattle.grid.specs.declared.layer.Size.{Size}
 use Rattle.grid.specs.declared.edge.Edge.{Edge}
 use Rattle.sheet.specs.Commands.{bytesOf, kindOf, stickBytes, sizeCommand, contourCommand}

@@ -5,13 +5,13 @@ use mathlib.Core.List.{List, [], _∷_, map, flatten, foldl, foldl-append, foldl
 use Prim.Native.Nat.{ℕ, _+_, _*_, _≤_, _<_}
 use native.Mathlib.Omega.{arith}
 use lib.ListN.{length}
-use Rattle.arith.specs.Ranges.{length-tabulateFrom}
+use Rattle.arith.proofs.Ranges.{length-tabulateFrom}
 use Rattle.grid.specs.Layer.{Layer}
 use Rattle.grid.specs.Edges.{isStick, edgeAt, edgeCount, kindStart}
-use Rattle.step.specs.Walk.{next}
 use Rattle.grid.specs.Questions.{Sound}
 use Rattle.grid.specs.declared.edge.Edge.{Edge}
 use Rattle.grid.specs.declared.question.Answer.the-variants.{Yes}
+use Rattle.step.specs.Walk.{next}
 use Rattle.contour.specs.Walk.{rest, firstsFrom}
 use Rattle.contour.specs.Contours.{walkOf, contourOf, sameEdge}
 use Rattle.contour.specs.Sets.{FirstSet, nextIn}

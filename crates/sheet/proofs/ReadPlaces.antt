@@ -8,8 +8,9 @@ use Prim.Native.Nat.{ℕ, _+_, _*_, _<_}
 use native.Mathlib.Omega.{arith}
 use lib.ListN.{length, getD}
 use lib.Seq.{getD-set-same}
-use Rattle.arith.specs.Booleans.{asNumber, both-sides}
-use Rattle.arith.specs.Ranges.{length-tabulateFrom, getD-tabulate}
+use Rattle.arith.specs.Booleans.{asNumber}
+use Rattle.arith.proofs.Booleans.{both-sides}
+use Rattle.arith.proofs.Ranges.{length-tabulateFrom, getD-tabulate}
 use Rattle.grid.specs.Layer.{Layer}
 use Rattle.grid.specs.Edges.{number, edgeAt, edgeCount, isStick, stickAt}
 use Rattle.grid.specs.Questions.{Sound}

@@ -10,16 +10,17 @@ use borrow.Author.Tests.{eqb-true, ne-eqb, ltb-true}
 use lib.Dec.{eqb, ltb}
 use lib.ListN.{length, getD, take, drop}
 use lib.Seq.{split-at, length-take-le}
-use Rattle.arith.specs.Booleans.{asNumber, both-sides, and-split}
+use Rattle.arith.specs.Booleans.{asNumber}
+use Rattle.arith.proofs.Booleans.{both-sides, and-split}
 use Rattle.grid.specs.Layer.{Layer}
 use Rattle.grid.specs.Edges.{number, edgeAt, edgeCount, isStick, stickAt}
-use Rattle.step.specs.Walk.{next}
 use Rattle.grid.specs.Questions.{Sound}
 use Rattle.grid.specs.declared.edge.Edge.{Edge}
 use Rattle.grid.specs.declared.question.Refusal.the-variants.{WrongEntry}
 use Rattle.grid.specs.declared.question.Answer.the-variants.{Yes}
 use Rattle.grid.proofs.Answers.{each-yes}
 use Rattle.grid.proofs.Numbers.{edgeAt-within}
+use Rattle.step.specs.Walk.{next}
 use Rattle.contour.specs.Walk.{ahead}
 use Rattle.contour.specs.Contours.{walkOf, contourOf, firstSticks, sameEdge}
 use Rattle.contour.proofs.Orbit.{ahead-next, ahead-one, round, unlike, contour-at}

@@ -10,7 +10,8 @@ use borrow.Author.Tests.{eqb-true, eq-eqb, lt-ltb, not-false}
 use lib.Dec.{eqb, ltb}
 use lib.ListN.{length, getD, drop, length-append, drop-of-length-le}
 use lib.Seq.{getD-append-add, getD-append-seam, drop-cons, ext-getD}
-use Rattle.arith.specs.Booleans.{asNumber, both-sides, and-split}
+use Rattle.arith.specs.Booleans.{asNumber}
+use Rattle.arith.proofs.Booleans.{both-sides, and-split}
 use Rattle.grid.specs.Layer.{Layer}
 use Rattle.grid.specs.Edges.{number, edgeAt, edgeCount, isStick, stickAt}
 use Rattle.grid.specs.Questions.{firstNo, Sound}

@@ -6,7 +6,7 @@ use mathlib.Core.List.{List, [], _∷_, foldl, map, flatten}
 use Prim.Native.Nat.{ℕ, _+_, _-_, _*_, _≤_, _<_}
 use native.Mathlib.Omega.{arith}
 use lib.ListN.{length, length-append}
-use Rattle.arith.specs.Ranges.{count-le}
+use Rattle.arith.proofs.Ranges.{count-le}
 use Rattle.grid.specs.Layer.{Layer}
 use Rattle.grid.specs.Edges.{edgeCount, edgeAt, kindStart, stickAt}
 use Rattle.grid.specs.Questions.{Sound}

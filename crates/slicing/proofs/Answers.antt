@@ -9,7 +9,7 @@ use borrow.Author.Tests.{ne-eqb, leb-true}
 use lib.Dec.{eqb, leb}
 use lib.ListN.{length, getD, take, drop, replicate, length-drop}
 use lib.Seq.{take-all}
-use Rattle.arith.specs.Booleans.{and-split}
+use Rattle.arith.proofs.Booleans.{and-split}
 use Rattle.grid.specs.Layer.{Layer, layerOf, sizeOf}
 use Rattle.grid.specs.Questions.{numberOf, firstNo}
 use Rattle.grid.specs.declared.question.Refusal.{Refusal}

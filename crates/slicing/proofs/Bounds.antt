@@ -9,8 +9,9 @@ use native.Mathlib.Omega.{arith}
 use borrow.Author.Tests.{leb-true}
 use lib.Dec.{leb, lit≤}
 use lib.ListN.{length, length-append}
-use Rattle.arith.specs.Booleans.{asNumber, and-split}
-use Rattle.arith.specs.Ranges.{count-le}
+use Rattle.arith.specs.Booleans.{asNumber}
+use Rattle.arith.proofs.Booleans.{and-split}
+use Rattle.arith.proofs.Ranges.{count-le}
 use Rattle.grid.specs.Layer.{Layer}
 use Rattle.grid.specs.Edges.{edgeCount, isStick, stickAt}
 use Rattle.grid.specs.Questions.{numberOf, Sized, Sound}

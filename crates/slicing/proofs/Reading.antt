@@ -10,7 +10,7 @@ use borrow.Author.Tests.{ne-eqb, le-leb, leb-true, leb-false}
 use lib.Dec.{leb, lit≤}
 use lib.ListN.{length, getD, take, drop, replicate, length-drop}
 use lib.Seq.{take-all, length-take-le, getD-take}
-use Rattle.arith.specs.Booleans.{both-sides}
+use Rattle.arith.proofs.Booleans.{both-sides}
 use Rattle.grid.specs.Layer.{Layer, layerOf, sizeOf, stride}
 use Rattle.grid.specs.Edges.{edgeCount}
 use Rattle.grid.specs.Questions.{sidesAnswer, lengthAnswer}

@@ -1,5 +1,5 @@
 -- The steps of the code's signed arithmetic, on integers: the machine's quotient, which rounds toward zero, and a quotient rounded down or to
--- the nearest; a fraction with a denominator above 0; casts. What fits a machine integer is read off by `Rattle.arith.specs.Bounds`.
+-- the nearest; a fraction with a denominator above 0; casts. What fits a machine integer is read off by `Rattle.arith.proofs.Bounds`.
 use mathlib.Core.Path.{_≡_, refl, sym, ap, ap₂, subst, _∙_}
 use mathlib.Core.Bool.{true, false, true≢false, false≢true}
 use Prim.Native.Nat.{ℕ, _+_, _*_, _/_, _≤_, _<_}
@@ -10,9 +10,9 @@ use lib.IntN.{ℤ, pos, negsuc, natAbs, _+ℤ_, _-ℤ_, _*ℤ_}
 use lib.Signed.{quotZ, nonNeg, leZ, ltZ, _<ℤ_}
 use mir.Syntax.{Width, w8}
 use mir.Val.{Fits, ofZ}
-use Rattle.arith.specs.Integers.{ints, at, viaℕ, arithℤ, leZ-false, ltZ-true}
+use Rattle.arith.proofs.Integers.{ints, at, viaℕ, arithℤ, leZ-false, ltZ-true}
 use Rattle.arith.specs.Nearest.{floorDiv, nearest}
-use Rattle.arith.specs.Bounds.{Sized, ok, pure, exact, natAbs-neg}
+use Rattle.arith.proofs.Bounds.{Sized, ok, pure, exact, natAbs-neg}
 use Rattle.smooth.specs.Offset.{rounded, upon}
 
 -- a number above 0 is no zero divisor

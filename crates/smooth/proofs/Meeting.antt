@@ -7,7 +7,7 @@ use Prim.Native.Nat.{ℕ, suc, _+_, _*_, _-_, _≤_, _<_}
 use native.Mathlib.Nat.{mul-le-mul-left, mul-comm}
 use native.Mathlib.Omega.{arith}
 use lib.IntN.{ℤ, pos, negsuc, negℤ, natAbs, _+ℤ_, _-ℤ_, _*ℤ_}
-use Rattle.arith.specs.Integers.{ints, at, viaℕ, toℕ}
+use Rattle.arith.proofs.Integers.{ints, at, viaℕ, toℕ}
 use Rattle.grid.specs.declared.edge.Edge.{Edge}
 use Rattle.chord.specs.Points.{Position, Point, Meets, slide}
 use Rattle.chord.specs.Crossing.{along, across, base, line, off, meeting, total}

@@ -5,7 +5,8 @@ use Prim.Native.Nat.{ℕ, _+_, _*_, _-_, _≤_, _<_}
 use native.Mathlib.Omega.{arith}
 use lib.IntN.{ℤ, pos, natAbs, _+ℤ_}
 use lib.Signed.{_≤ℤ_}
-use Rattle.arith.specs.Integers.{ints, at, viaℕ, toℕ, arithℤ, natAbs-parts, up}
+use Rattle.arith.proofs.Integers.{ints, at, viaℕ, toℕ, arithℤ, natAbs-parts}
+use Rattle.arith.specs.Integers.{up}
 use Rattle.grid.specs.declared.edge.Edge.{Edge}
 use Rattle.chord.specs.Points.{Position}
 use Rattle.chord.specs.Crossing.{along, base, meeting, total}

@@ -6,7 +6,8 @@ use mathlib.Core.List.{List, [], _∷_, foldl}
 use Prim.Native.Nat.{ℕ, zero, suc, _+_, _*_, _≤_, _<_}
 use native.Mathlib.Omega.{arith}
 use lib.ListN.{length}
-use Rattle.arith.specs.Booleans.{asNumber, both-sides}
+use Rattle.arith.specs.Booleans.{asNumber}
+use Rattle.arith.proofs.Booleans.{both-sides}
 use Rattle.grid.specs.Layer.{Layer}
 use Rattle.grid.specs.Edges.{isStick}
 use Rattle.grid.specs.Questions.{Sound}
@@ -17,8 +18,8 @@ use Rattle.contour.proofs.Sticks.{laws}
 use Rattle.contour.proofs.Outer.{foldl-flatten}
 use Rattle.contour.proofs.Contours.{walked-one}
 use Rattle.contour.proofs.Theorems.{total-length}
-use Rattle.smooth.specs.Smooth.{Pass, visit, passContour, pass, vertexCount, isSettled, Smoothed, unsmoothed, further, until, smooth}
 use Rattle.table.proofs.AllKept.{AllKept}
+use Rattle.smooth.specs.Smooth.{Pass, visit, passContour, pass, vertexCount, isSettled, Smoothed, unsmoothed, further, until, smooth}
 use Rattle.smooth.proofs.Steps.{visit-kept, visit-total}
 
 -- what a pass is made of: what a loop over contours cites

@@ -6,8 +6,9 @@ use native.Mathlib.Nat.{mul-le-mul-right}
 use native.Mathlib.Omega.{arith}
 use lib.IntN.{ℤ, pos, negℤ, natAbs, _+ℤ_, _-ℤ_, _*ℤ_}
 use lib.Signed.{_≤ℤ_, _<ℤ_}
-use Rattle.arith.specs.Integers.{ints, at, viaℕ, toℕ, arithℤ, add-parts, natAbs-parts, *ℤ-mono, *ℤ-cancel-<, *ℤ-cancel-≤}
-use Rattle.arith.specs.Nearest.{Near, nearest-is, nearest-only}
+use Rattle.arith.proofs.Integers.{ints, at, viaℕ, toℕ, arithℤ, add-parts, natAbs-parts, *ℤ-mono, *ℤ-cancel-<, *ℤ-cancel-≤}
+use Rattle.arith.specs.Nearest.{Near}
+use Rattle.arith.proofs.Nearest.{nearest-is, nearest-only}
 use Rattle.smooth.specs.Offset.{rounded}
 
 twice-size : (y : ℤ) (m : ℕ) → negℤ (pos m) ≤ℤ (pos 2 *ℤ y) → (pos 2 *ℤ y) ≤ℤ pos m → 2 * natAbs y ≤ m

@@ -2,7 +2,7 @@
 use mathlib.Core.List.{List}
 use Prim.Native.Nat.{ℕ, _≤_}
 use native.Mathlib.Omega.{arith}
-use Rattle.arith.specs.Ranges.{count-le}
+use Rattle.arith.proofs.Ranges.{count-le}
 use Rattle.grid.specs.Layer.{Layer}
 use Rattle.grid.specs.Edges.{edgeCount, stickAt}
 use Rattle.grid.specs.Questions.{Sound}

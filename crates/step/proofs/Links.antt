@@ -4,7 +4,8 @@ use mathlib.Core.Bool.{Bool, true, false, not, _&&_, _||_, xor, Bool·beq}
 use Prim.Native.Nat.{ℕ, _<_}
 use native.Mathlib.Omega.{arith}
 use lib.Dec.{T, eqb, eqb→eq}
-use Rattle.arith.specs.Booleans.{all, at-all, and-T, beq→eq, implied}
+use Rattle.arith.specs.Booleans.{all}
+use Rattle.arith.proofs.Booleans.{at-all, and-T, beq→eq, implied}
 use Rattle.step.specs.Cells.{Corners, cut, diagonal, atInsideEnd, partner, sideIndex, sideAt, linkedTo}
 use Rattle.step.specs.Turns.{left, near, nearBy}
 use Rattle.step.specs.declared.cell.Side.{Side}

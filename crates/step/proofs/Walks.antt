@@ -7,19 +7,19 @@ use native.Mathlib.Decide.{ℕ-discrete}
 use native.Mathlib.Omega.{arith}
 use borrow.Author.Tests.{lt-ltb}
 use lib.Dec.{T}
-use Rattle.arith.specs.Booleans.{and-split, beq→eq}
+use Rattle.arith.proofs.Booleans.{and-split, beq→eq}
 use Rattle.grid.specs.Layer.{Layer, sample}
 use Rattle.grid.specs.Edges.{isStick, inGrid, firstEnd, secondEnd}
+use Rattle.grid.specs.Questions.{Sound, onBorder}
+use Rattle.grid.specs.declared.edge.Edge.{Edge}
+use Rattle.grid.proofs.Borders.{west, east, bottom, top}
+use Rattle.grid.proofs.Numbers.{Within, within, in-grid}
 use Rattle.step.specs.Cells.{corners, cut, partner, link, edgeOf}
 use Rattle.step.specs.Walk.{upward, beside, ahead, behind, next, prev}
-use Rattle.grid.specs.Questions.{Sound, onBorder}
 use Rattle.step.specs.Turns.{left, near, nearBy, Entered, leaving}
-use Rattle.grid.specs.declared.edge.Edge.{Edge}
 use Rattle.step.specs.declared.cell.CellSide.{CellSide}
 use Rattle.step.specs.declared.cell.Side.{Side}
 use Rattle.step.specs.declared.cell.Side.the-variants.{South, East, North, West}
-use Rattle.grid.proofs.Borders.{west, east, bottom, top}
-use Rattle.grid.proofs.Numbers.{Within, within, in-grid}
 use Rattle.step.proofs.Links.{sameSide, partner-partner, partner-cut, partner-other, partner-turns, near-stick}
 
 -- a cell whose four samples are in the grid

@@ -5,7 +5,7 @@ use mathlib.Core.List.{List}
 use Prim.Native.Nat.{ℕ, _<_}
 use borrow.Author.Tests.{not-false}
 use lib.ListN.{length, getD}
-use Rattle.arith.specs.Booleans.{both-sides}
+use Rattle.arith.proofs.Booleans.{both-sides}
 use Rattle.grid.specs.Layer.{Layer}
 use Rattle.grid.specs.Edges.{number, edgeCount, edgeAt, isStick, stickAt}
 use Rattle.grid.specs.Questions.{Sound}

@@ -6,7 +6,7 @@ use Prim.Native.Nat.{ℕ, _+_, _-_, _%_, _≤_}
 use native.Mathlib.Omega.{arith}
 use borrow.Author.Tests.{eqb-true, eqb-false, leb-true, ne-eqb, le-leb, lt-leb}
 use lib.Dec.{eqb, leb}
-use Rattle.arith.specs.Booleans.{and-split}
+use Rattle.arith.proofs.Booleans.{and-split}
 use Rattle.table.specs.Entries.{entryOf, encoded, suits}
 use Rattle.table.specs.Vertices.{isKept, isRemoved, offsetIn}
 use Rattle.table.specs.declared.entry.Entry.{Entry}

@@ -8,7 +8,8 @@ use native.Mathlib.Decide.{decLt}
 use native.Mathlib.Nat.{add-assoc}
 use lib.Arith.{digits-lt}
 use lib.ListN.{getD}
-use Rattle.arith.specs.Ranges.{least, least-is, leastFrom-holds, leastFrom-below, leastFrom-le, below-add}
+use Rattle.arith.specs.Ranges.{least}
+use Rattle.arith.proofs.Ranges.{least-is, leastFrom-holds, leastFrom-below, leastFrom-le, below-add}
 use Rattle.grid.specs.Layer.{Layer}
 use Rattle.grid.specs.Edges.{edgeColumns, edgeRows, kindStart, rowStart, isStick, Marks}
 use Rattle.grid.specs.Questions.{Sized}

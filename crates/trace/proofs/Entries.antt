@@ -5,7 +5,8 @@ use mathlib.Core.List.{List}
 use Prim.Native.Nat.{ℕ, _+_, _-_, _*_, _≤_, _<_}
 use native.Mathlib.Nat.{add-assoc, zero-add}
 use native.Mathlib.Omega.{arith}
-use Rattle.arith.specs.Ranges.{fill, fill-add, fill-same}
+use Rattle.arith.specs.Ranges.{fill}
+use Rattle.arith.proofs.Ranges.{fill-add, fill-same}
 use Rattle.grid.specs.Layer.{Layer, bit}
 use Rattle.grid.specs.Edges.{edgeColumns, edgeRows, edgeCount, kindStart, rowStart, edgeAt, isStick, Marks}
 use Rattle.grid.specs.Questions.{Sized}

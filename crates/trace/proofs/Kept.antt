@@ -5,7 +5,8 @@ use mathlib.Core.List.{List}
 use Prim.Native.Nat.{ℕ}
 use native.Mathlib.Omega.{arith}
 use lib.ListN.{length, getD}
-use Rattle.arith.specs.Ranges.{tabulate, length-tabulateFrom, getD-tabulate}
+use Rattle.arith.specs.Ranges.{tabulate}
+use Rattle.arith.proofs.Ranges.{length-tabulateFrom, getD-tabulate}
 use Rattle.grid.specs.Layer.{Layer}
 use Rattle.grid.specs.Edges.{number, edgeCount, isStick, stickAt}
 use Rattle.grid.specs.Questions.{Sound, firstNo}

@@ -4,7 +4,8 @@ use Prim.Native.Nat.{ℕ, _-_, _*_, _≤_}
 use native.Mathlib.Omega.{arith}
 use borrow.Author.Needs.{needs}
 use lib.ListN.{getD}
-use Rattle.arith.specs.Ranges.{count, count-le, count-past}
+use Rattle.arith.specs.Ranges.{count}
+use Rattle.arith.proofs.Ranges.{count-le, count-past}
 use Rattle.grid.specs.Layer.{bit}
 use Rattle.contour.specs.Sets.{places, has}
 use Rattle.contour.proofs.Sets.{count-word}

@@ -7,7 +7,7 @@ use native.Mathlib.Nat.{mod-lt}
 use native.Mathlib.Omega.{arith}
 use borrow.Author.Needs.{needs}
 use lib.ListN.{getD}
-use Rattle.arith.specs.Ranges.{leastFrom-none}
+use Rattle.arith.proofs.Ranges.{leastFrom-none}
 use Rattle.grid.specs.Layer.{bit}
 use Rattle.contour.specs.Sets.{has}
 use Rattle.contour.proofs.Words.{bit-zero}

@@ -3,7 +3,8 @@ use mathlib.Core.Path.{_≡_, ap, ap₂, sym, _∙_}
 use Prim.Native.Nat.{ℕ, _+_, _-_, _*_, _≤_, _<_}
 use native.Mathlib.Omega.{arith}
 use borrow.Author.Needs.{needs}
-use Rattle.arith.specs.Ranges.{count, count-zero, count-le}
+use Rattle.arith.specs.Ranges.{count}
+use Rattle.arith.proofs.Ranges.{count-zero, count-le}
 use Rattle.grid.specs.Layer.{layerOf, stride, bit, sampleIn}
 use Rattle.grid.proofs.Ones.{inside-byte, inside-row}
 use Rattle.grid.proofs.count.inside_in_row.Statement.{statement}

@@ -4,7 +4,8 @@ use Prim.Native.Nat.{ℕ, _+_, _-_, _*_, _≤_, _<_}
 use native.Mathlib.Omega.{arith}
 use native.Mathlib.Nat.{zero-mul, mul-le-mul}
 use borrow.Author.Needs.{needs}
-use Rattle.arith.specs.Ranges.{count, count-zero, count-le}
+use Rattle.arith.specs.Ranges.{count}
+use Rattle.arith.proofs.Ranges.{count-zero, count-le}
 use Rattle.grid.specs.Layer.{layerOf}
 use Rattle.grid.specs.Edges.{edgeColumns, edgeRows, stickIn, stickOf}
 use Rattle.grid.proofs.Ones.{sticks-rows}

@@ -6,7 +6,8 @@ use native.Mathlib.Omega.{arith}
 use native.Mathlib.Nat.{mul-le-mul}
 use borrow.Author.Needs.{needs}
 use lib.Arith.{digits-lt, digits-div, digits-mod}
-use Rattle.arith.specs.Ranges.{below-add, leastFrom, leastFrom-holds, leastFrom-below}
+use Rattle.arith.proofs.Ranges.{below-add, leastFrom-holds, leastFrom-below}
+use Rattle.arith.specs.Ranges.{leastFrom}
 use Rattle.grid.specs.Layer.{Layer, layerOf}
 use Rattle.grid.specs.Questions.{borderIn, borderAt, borderAnswer}
 use Rattle.grid.specs.declared.question.Refusal.the-variants.{BorderInside}

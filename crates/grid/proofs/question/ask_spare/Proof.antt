@@ -5,7 +5,7 @@ use Prim.Native.Nat.{ℕ, _+_, _-_, _*_, _≤_, _<_}
 use native.Mathlib.Omega.{arith}
 use borrow.Author.Needs.{needs}
 use lib.ListN.{length}
-use Rattle.arith.specs.Ranges.{below-add}
+use Rattle.arith.proofs.Ranges.{below-add}
 use Rattle.grid.specs.Layer.{layerOf, stride, rowEnd}
 use Rattle.grid.specs.Questions.{spareSet, spareAnswer}
 use Rattle.grid.specs.declared.question.Refusal.the-variants.{SpareBits}

@@ -4,7 +4,7 @@ use mathlib.Core.Bool.{true, false}
 use Prim.Native.Nat.{ℕ, _-_}
 use native.Mathlib.Omega.{arith}
 use borrow.Author.Needs.{needs}
-use Rattle.arith.specs.Ranges.{least-is, least-none, leastFrom-same}
+use Rattle.arith.proofs.Ranges.{least-is, least-none, leastFrom-same}
 use Rattle.grid.specs.Layer.{layerOf, sampleIn, sample}
 use Rattle.grid.specs.Questions.{borderIn}
 use Rattle.grid.proofs.Borders.{west, east, bottom, top, on-border, between}

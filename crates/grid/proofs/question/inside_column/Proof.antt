@@ -5,7 +5,7 @@ use Prim.Native.Nat.{ℕ, _-_, _≤_, _<_}
 use native.Mathlib.Omega.{arith}
 use borrow.Author.Needs.{needs}
 use borrow.Author.Count.{below-more}
-use Rattle.arith.specs.Ranges.{least-is, least-none}
+use Rattle.arith.proofs.Ranges.{least-is, least-none}
 use Rattle.grid.specs.Layer.{layerOf, sampleIn}
 use Rattle.grid.proofs.question.inside_column.Statement.{statement}
 use Rattle.grid.proofs.question.inside_column.Tie as tie

@@ -6,8 +6,9 @@ use native.Mathlib.Omega.{arith}
 use borrow.Author.Needs.{needs}
 use lib.ListN.{length}
 use Rattle.arith.specs.Booleans.{asNumber}
-use Rattle.arith.specs.Ranges.{count, count-zero, count-le}
-use Rattle.arith.specs.Finite.{count-more}
+use Rattle.arith.specs.Ranges.{count}
+use Rattle.arith.proofs.Ranges.{count-zero, count-le}
+use Rattle.arith.proofs.Finite.{count-more}
 use Rattle.table.specs.Vertices.{isKept}
 use Rattle.planner.specs.Writing.{keptEntry}
 use Rattle.planner.proofs.planning.count_kept.Statement.{statement}

@@ -6,7 +6,8 @@ use native.Mathlib.Nat.{zero-add}
 use native.Mathlib.Omega.{arith}
 use borrow.Author.Needs.{needs}
 use lib.ListN.{length, set}
-use Rattle.arith.specs.Ranges.{fill, length-fill, fill-none, fill-more}
+use Rattle.arith.specs.Ranges.{fill}
+use Rattle.arith.proofs.Ranges.{length-fill, fill-none, fill-more}
 use Rattle.sheet.proofs.read_fill.clear.Statement.{statement}
 use Rattle.sheet.proofs.read_fill.clear.Tie as tie
 

@@ -2,7 +2,8 @@
 use borrow.Author.Needs.{needs}
 use mathlib.Core.Path.{ap, _∙_}
 use Prim.Native.Nat.{ℕ}
-use Rattle.arith.specs.Ranges.{fill, fill-all}
+use Rattle.arith.specs.Ranges.{fill}
+use Rattle.arith.proofs.Ranges.{fill-all}
 use Rattle.grid.specs.Edges.{edgeCount}
 use Rattle.sheet.proofs.read_fill.fill_table.Statement.{statement}
 use Rattle.sheet.proofs.read_fill.fill_table.Tie as tie

@@ -4,7 +4,7 @@ use Prim.Native.Nat.{_+_, _-_}
 use native.Mathlib.Omega.{arith}
 use borrow.Author.Needs.{needs}
 use lib.ListN.{length}
-use Rattle.arith.specs.Ranges.{length-tabulateFrom}
+use Rattle.arith.proofs.Ranges.{length-tabulateFrom}
 use Rattle.grid.specs.Layer.{layerOf}
 use Rattle.grid.specs.Edges.{edgeCount}
 use Rattle.contour.specs.Sets.{nextIn}

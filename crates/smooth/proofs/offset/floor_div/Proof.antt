@@ -6,7 +6,7 @@ use lib.Signed.{leZ}
 use mir.Syntax.{w64}
 use mir.Val.{toZ, ofZ}
 use Rattle.arith.specs.Nearest.{floorDiv}
-use Rattle.arith.specs.Bounds.{sized, in-range, exact}
+use Rattle.arith.proofs.Bounds.{sized, in-range, exact}
 use Rattle.smooth.proofs.Division.{above-bits, floor-up, floor-down, floor-size, with-size}
 use Rattle.smooth.proofs.offset.floor_div.Statement.{statement}
 use Rattle.smooth.proofs.offset.floor_div.Tie as tie

@@ -4,7 +4,7 @@ use native.Mathlib.Omega.{arith}
 use lib.IntN.{pos, _*ℤ_}
 use mir.Syntax.{w64}
 use mir.Val.{toZ, ofZ}
-use Rattle.arith.specs.Bounds.{sized, in-range, exact, within}
+use Rattle.arith.proofs.Bounds.{sized, in-range, exact, within}
 use Rattle.smooth.proofs.Division.{above-exact, above-times, nearest-of}
 use Rattle.smooth.proofs.offset.nearest_div.Statement.{statement}
 use Rattle.smooth.proofs.offset.nearest_div.Tie as tie

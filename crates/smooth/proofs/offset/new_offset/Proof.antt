@@ -5,8 +5,8 @@ use lib.IntN.{ℤ, pos, natAbs}
 use lib.Signed.{_<ℤ_}
 use mir.Syntax.{w64}
 use mir.Val.{toZ, ofZ}
-use Rattle.arith.specs.Integers.{arithℤ}
-use Rattle.arith.specs.Bounds.{sized, exact, within}
+use Rattle.arith.proofs.Integers.{arithℤ}
+use Rattle.arith.proofs.Bounds.{sized, exact, within}
 use Rattle.smooth.specs.Offset.{rounded, spread, upon, newOffset}
 use Rattle.smooth.proofs.Division.{above-exact, byte-fits}
 use Rattle.smooth.proofs.Offsets.{around-some, around-is, around-inside}

@@ -6,7 +6,7 @@ use borrow.Author.Needs.{needs}
 use lib.IntN.{pos, _*ℤ_}
 use mir.Syntax.{w64}
 use mir.Val.{toZ, ofZ}
-use Rattle.arith.specs.Bounds.{sized, in-range, exact, within}
+use Rattle.arith.proofs.Bounds.{sized, in-range, exact, within}
 use Rattle.smooth.proofs.Division.{above-exact, above-times, rounded-of}
 use Rattle.smooth.proofs.offset.rounded_of.Statement.{statement}
 use Rattle.smooth.proofs.offset.rounded_of.Tie as tie

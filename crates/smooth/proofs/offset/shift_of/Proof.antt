@@ -4,7 +4,7 @@ use Prim.Native.Nat.{_≤_}
 use native.Mathlib.Omega.{arith}
 use borrow.Author.Needs.{needs}
 use lib.IntN.{pos, _+ℤ_, _-ℤ_, _*ℤ_}
-use Rattle.arith.specs.Bounds.{sized, in-range, exact, within}
+use Rattle.arith.proofs.Bounds.{sized, in-range, exact, within}
 use Rattle.smooth.proofs.offset.shift_of.Statement.{statement}
 use Rattle.smooth.proofs.offset.shift_of.Tie as tie
 

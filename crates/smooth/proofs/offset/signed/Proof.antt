@@ -1,7 +1,7 @@
 -- `signed` meets its contract.
 use lib.IntN.{pos}
 use borrow.Author.Needs.{needs}
-use Rattle.arith.specs.Bounds.{sized, exact}
+use Rattle.arith.proofs.Bounds.{sized, exact}
 use Rattle.smooth.proofs.Division.{with-size}
 use Rattle.smooth.proofs.offset.signed.Statement.{statement}
 use Rattle.smooth.proofs.offset.signed.Tie as tie

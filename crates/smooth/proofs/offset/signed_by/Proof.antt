@@ -5,7 +5,7 @@ use lib.IntN.{ℤ, pos}
 use lib.Signed.{ltZ}
 use mir.Syntax.{w64}
 use mir.Val.{toZ, ofZ}
-use Rattle.arith.specs.Bounds.{sized, in-range, exact}
+use Rattle.arith.proofs.Bounds.{sized, in-range, exact}
 use Rattle.smooth.specs.Offset.{upon}
 use Rattle.smooth.proofs.Division.{with-size, upon-below, upon-above, upon-size}
 use Rattle.smooth.proofs.offset.signed_by.Statement.{statement}

@@ -4,7 +4,7 @@ use lib.IntN.{ℤ, pos, natAbs}
 use lib.Signed.{ltZ}
 use mir.Syntax.{w64}
 use mir.Val.{toZ, ofZ}
-use Rattle.arith.specs.Bounds.{sized, in-range, exact}
+use Rattle.arith.proofs.Bounds.{sized, in-range, exact}
 use Rattle.smooth.proofs.Division.{with-size, size-below, size-above}
 use Rattle.smooth.proofs.offset.size_of.Statement.{statement}
 use Rattle.smooth.proofs.offset.size_of.Tie as tie

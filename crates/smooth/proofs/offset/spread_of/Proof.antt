@@ -2,7 +2,7 @@
 use mathlib.Core.Path.{ap, ap₂, _∙_}
 use borrow.Author.Needs.{needs}
 use lib.IntN.{pos, _-ℤ_}
-use Rattle.arith.specs.Bounds.{sized, in-range, exact, within}
+use Rattle.arith.proofs.Bounds.{sized, in-range, exact, within}
 use Rattle.smooth.proofs.offset.spread_of.Statement.{statement}
 use Rattle.smooth.proofs.offset.spread_of.Tie as tie
 

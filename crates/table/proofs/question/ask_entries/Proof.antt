@@ -5,13 +5,13 @@ use Prim.Native.Nat.{ℕ, _+_, _-_, _*_, _≤_, _<_}
 use native.Mathlib.Omega.{arith}
 use native.Mathlib.Nat.{zero-add}
 use borrow.Author.Needs.{needs}
-use Rattle.arith.specs.Ranges.{below-add, leastFrom-le}
+use Rattle.arith.proofs.Ranges.{below-add, leastFrom-le}
 use Rattle.grid.specs.Layer.{layerOf}
 use Rattle.grid.specs.Edges.{edgeColumns, edgeRows, edgeCount, kindStart}
 use Rattle.grid.specs.declared.question.Refusal.the-variants.{WrongEntry}
-use Rattle.table.specs.Entries.{wrongAt, wrongOf, entriesAnswer}
 use Rattle.grid.proofs.Answers.{each-no, each-yes}
 use Rattle.grid.proofs.Numbers.{edges-split, edges-small}
+use Rattle.table.specs.Entries.{wrongAt, wrongOf, entriesAnswer}
 use Rattle.table.proofs.Runs.{kind-before, kind-found}
 use Rattle.table.proofs.question.ask_entries.Statement.{statement}
 use Rattle.table.proofs.question.ask_entries.Tie as tie

@@ -6,7 +6,7 @@ use native.Mathlib.Omega.{arith}
 use borrow.Author.Needs.{needs}
 use borrow.Author.Count.{below-more}
 use lib.ListN.{getD}
-use Rattle.arith.specs.Ranges.{least-is, least-none}
+use Rattle.arith.proofs.Ranges.{least-is, least-none}
 use Rattle.grid.specs.Layer.{bit}
 use Rattle.table.specs.Entries.{wrong, wrongFrom}
 use Rattle.table.proofs.question.first_wrong.Statement.{statement}

@@ -5,10 +5,11 @@ use Prim.Native.Nat.{ℕ, _+_, _-_, _*_, _≤_, _<_}
 use native.Mathlib.Omega.{arith}
 use borrow.Author.Needs.{needs}
 use lib.ListN.{getD}
-use Rattle.arith.specs.Ranges.{least, least-none}
+use Rattle.arith.specs.Ranges.{least}
+use Rattle.arith.proofs.Ranges.{least-none}
 use Rattle.grid.specs.Layer.{bit}
-use Rattle.table.specs.Entries.{entryOf, wrong, wrongFrom}
 use Rattle.grid.proofs.Masks.{bit-past}
+use Rattle.table.specs.Entries.{entryOf, wrong, wrongFrom}
 use Rattle.table.proofs.question.first_wrong_fast.Statement.{statement}
 use Rattle.table.proofs.question.first_wrong_fast.Tie as tie
 

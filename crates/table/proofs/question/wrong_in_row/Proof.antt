@@ -5,11 +5,11 @@ use Prim.Native.Nat.{ℕ, _+_, _-_, _*_, _≤_, _<_}
 use native.Mathlib.Omega.{arith}
 use borrow.Author.Needs.{needs}
 use lib.ListN.{length}
-use Rattle.arith.specs.Ranges.{least-none}
+use Rattle.arith.proofs.Ranges.{least-none}
 use Rattle.grid.specs.Layer.{layerOf}
 use Rattle.grid.specs.Edges.{edgeColumns, rowStart}
-use Rattle.table.specs.Entries.{wrongIn}
 use Rattle.grid.proofs.Numbers.{column-stride, columns-narrow, row-fits, edges-small}
+use Rattle.table.specs.Entries.{wrongIn}
 use Rattle.table.proofs.Runs.{run-found, run-passed}
 use Rattle.table.proofs.question.wrong_in_row.Statement.{statement}
 use Rattle.table.proofs.question.wrong_in_row.Tie as tie

@@ -4,11 +4,11 @@ use mathlib.Core.Bool.{false}
 use Prim.Native.Nat.{ℕ, _+_, _-_, _*_, _≤_, _<_}
 use native.Mathlib.Omega.{arith}
 use borrow.Author.Needs.{needs}
-use Rattle.arith.specs.Ranges.{least-none}
+use Rattle.arith.proofs.Ranges.{least-none}
 use Rattle.grid.specs.Layer.{layerOf}
 use Rattle.grid.specs.Edges.{edgeColumns, edgeRows}
-use Rattle.table.specs.Entries.{wrongOf}
 use Rattle.grid.proofs.Numbers.{columns-narrow, rows-small}
+use Rattle.table.specs.Entries.{wrongOf}
 use Rattle.table.proofs.Runs.{row-found, row-passed}
 use Rattle.table.proofs.question.wrong_of_kind.Statement.{statement}
 use Rattle.table.proofs.question.wrong_of_kind.Tie as tie

@@ -6,11 +6,12 @@ use native.Mathlib.Omega.{arith}
 use native.Mathlib.Nat.{zero-mul}
 use borrow.Author.Needs.{needs}
 use lib.ListN.{length}
-use Rattle.arith.specs.Ranges.{fill, length-fill, fill-none}
+use Rattle.arith.specs.Ranges.{fill}
+use Rattle.arith.proofs.Ranges.{length-fill, fill-none}
 use Rattle.grid.specs.Layer.{layerOf}
 use Rattle.grid.specs.Edges.{edgeColumns, edgeRows, kindStart, rowStart}
-use Rattle.trace.specs.Trace.{tracedEntry}
 use Rattle.grid.proofs.Numbers.{rows-small}
+use Rattle.trace.specs.Trace.{tracedEntry}
 use Rattle.trace.proofs.Entries.{row-more}
 use Rattle.trace.proofs.fill.fill_kind.Statement.{statement}
 use Rattle.trace.proofs.fill.fill_kind.Tie as tie

@@ -6,11 +6,12 @@ use native.Mathlib.Omega.{arith}
 use native.Mathlib.Decide.{decLt}
 use borrow.Author.Needs.{needs}
 use lib.ListN.{length}
-use Rattle.arith.specs.Ranges.{fill, length-fill, fill-none}
+use Rattle.arith.specs.Ranges.{fill}
+use Rattle.arith.proofs.Ranges.{length-fill, fill-none}
 use Rattle.grid.specs.Layer.{layerOf}
 use Rattle.grid.specs.Edges.{edgeColumns, rowStart}
-use Rattle.trace.specs.Trace.{tracedEntry, tracedBit}
 use Rattle.grid.proofs.Numbers.{column-stride, columns-narrow, row-fits, edges-small}
+use Rattle.trace.specs.Trace.{tracedEntry, tracedBit}
 use Rattle.trace.proofs.Entries.{run-more}
 use Rattle.trace.proofs.fill.fill_row.Statement.{statement}
 use Rattle.trace.proofs.fill.fill_row.Tie as tie

@@ -5,7 +5,8 @@ use Prim.Native.Nat.{ℕ, _+_, _-_, _*_, _≤_, _<_}
 use native.Mathlib.Omega.{arith}
 use borrow.Author.Needs.{needs}
 use lib.ListN.{length, set}
-use Rattle.arith.specs.Ranges.{fill, length-fill, fill-none, fill-more}
+use Rattle.arith.specs.Ranges.{fill}
+use Rattle.arith.proofs.Ranges.{length-fill, fill-none, fill-more}
 use Rattle.grid.specs.Layer.{bit}
 use Rattle.trace.specs.Trace.{traced, tracedBit}
 use Rattle.trace.proofs.fill.fill_run.Statement.{statement}

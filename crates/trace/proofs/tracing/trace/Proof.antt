@@ -4,15 +4,16 @@ use mathlib.Core.List.{List}
 use Prim.Native.Nat.{ℕ}
 use borrow.Author.Needs.{needs}
 use lib.ListN.{length}
-use Rattle.arith.specs.Ranges.{tabulate, fill-all}
+use Rattle.arith.specs.Ranges.{tabulate}
+use Rattle.arith.proofs.Ranges.{fill-all}
 use Rattle.grid.specs.Layer.{Layer, layerOf, sizeOf}
 use Rattle.grid.specs.Edges.{edgeCount}
 use Rattle.grid.specs.Questions.{firstNo, ifAllYes, numberOf}
 use Rattle.grid.specs.declared.question.Answer.{Answer}
 use Rattle.grid.specs.declared.question.Answer.the-variants.{Yes, No}
 use Rattle.table.specs.Entries.{lengthQuestions}
-use Rattle.trace.specs.Trace.{tracedEntry, Outcome, traceOf}
 use Rattle.table.proofs.Lengths.{lengths-of}
+use Rattle.trace.specs.Trace.{tracedEntry, Outcome, traceOf}
 use Rattle.trace.proofs.tracing.trace.Statement.{statement}
 use Rattle.trace.proofs.tracing.trace.Tie as tie
 

@@ -12,7 +12,7 @@ use lib.Signed.{mag, quotZ}
 use mir.Syntax.{Width}
 use mir.Val.{SFits, toZ, ofZ, hbits}
 use mir.Facts.{and-yes, toZ-ofZ, toZ-pos}
-use Rattle.arith.specs.Integers.{add-parts, neg-parts, natAbs-parts}
+use Rattle.arith.proofs.Integers.{add-parts, neg-parts, natAbs-parts}
 
 pub natAbs-add : (x y : ℤ) → natAbs (x +ℤ y) ≤ natAbs x + natAbs y
 natAbs-add x y = omega (arith, add-parts x y, natAbs-parts x, natAbs-parts y, natAbs-parts (x +ℤ y))
