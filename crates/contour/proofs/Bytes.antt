@@ -10,7 +10,7 @@ use Rattle.arith.proofs.Booleans.{and-split}
 use Rattle.arith.specs.Ranges.{least}
 use Rattle.arith.proofs.Ranges.{leastFrom-holds, leastFrom-below}
 use Rattle.grid.specs.Layer.{Layer, bit}
-use Rattle.grid.specs.Edges.{isStick, Marks}
+use Rattle.grid.specs.Edges.{isStick, StickBits}
 use Rattle.contour.proofs.Words.{bit-shift, bit-zero, bit-end}
 
 module _ (L : Layer) where
@@ -19,7 +19,7 @@ module _ (L : Layer) where
   Left at r c x =
       (b : ℕ) → bit x b ≡ (ltb (c + b) (8 * at + 8) && isStick L (record { vertical = false; column = c + b; row = r }))
 
-  pub left-start : (at r x : ℕ) → Marks L false at r x → x < 256 → Left at r (8 * at) x
+  pub left-start : (at r x : ℕ) → StickBits L false at r x → x < 256 → Left at r (8 * at) x
   left-start at r x m l b = elim (decLt b 8) [
     | yes h ↦ m .ones b h ∙ rw (lt-ltb (8 * at + b) (8 * at + 8) (omega arith))
     | no g ↦ bit-end 8 x b l (omega arith) ∙ rw (le-ltb (8 * at + b) (8 * at + 8) (omega arith))

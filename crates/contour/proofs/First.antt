@@ -12,7 +12,7 @@ use borrow.Author.Tests.{eqb-true, eq-eqb, lt-ltb, le-ltb}
 use lib.Dec.{eqb}
 use Rattle.arith.specs.Booleans.{asNumber}
 use Rattle.arith.proofs.Booleans.{both-sides}
-use Rattle.contour.specs.Walk.{Walk, Laws, contour, occurrences, On, lowest, low, first, seen}
+use Rattle.contour.specs.Walk.{Walk, Laws, contour, occurrences, OnContour, lowest, low, first, seen}
 use Rattle.contour.proofs.Members.{once, on-self, on-one, on-swap, on-trans}
 
 module _ (w : Walk) (law : Laws w) where
@@ -44,7 +44,7 @@ module _ (w : Walk) (law : Laws w) where
       go (no h) (inr p) = inr (p .0, omega arith, omega arith)
 
   -- some element of the contour has it
-  bottom : (x : A) → isOne x ≡ true → (z : A) × On w x z × (low w x ≡ number z)
+  bottom : (x : A) → isOne x ≡ true → (z : A) × OnContour w x z × (low w x ≡ number z)
   unfolding low
   bottom x h = elim (lowest-is (number x) (contour w x)) [ inl e ↦ (x, on-self w law x h, e) | inr p ↦ p ]
 
@@ -52,11 +52,11 @@ module _ (w : Walk) (law : Laws w) where
   unfolding low
   low-self x = lowest-start (number x) (contour w x)
 
-  pub low-le : (x y : A) → On w x y → low w x ≤ number y
+  pub low-le : (x y : A) → OnContour w x y → low w x ≤ number y
   unfolding low
   low-le x y o = lowest-le (number x) (contour w x) y o
 
-  pub low-same : (x y : A) → isOne x ≡ true → On w x y → low w x ≡ low w y
+  pub low-same : (x y : A) → isOne x ≡ true → OnContour w x y → low w x ≡ low w y
   low-same x y h o =
       let l = on-one w law x y h o in
       let a = bottom x h in
@@ -68,10 +68,10 @@ module _ (w : Walk) (law : Laws w) where
       )
 
   -- the element of that number
-  pub low-on : (x : A) → isOne x ≡ true → On w x (at (low w x))
+  pub low-on : (x : A) → isOne x ≡ true → OnContour w x (at (low w x))
   low-on x h =
       let z = bottom x h in
-      subst (On w x) (sym (law .at-number (z .0) (on-one w law x (z .0) h (z .1))) ∙ ap at (sym (z .2))) (z .1)
+      subst (OnContour w x) (sym (law .at-number (z .0) (on-one w law x (z .0) h (z .1))) ∙ ap at (sym (z .2))) (z .1)
 
   pub low-less : (x : A) → isOne x ≡ true → low w x < many
   low-less x h = omega (arith, low-self x, law .number-less x h)
@@ -103,16 +103,16 @@ module _ (w : Walk) (law : Laws w) where
       is-first z l (sym (low-same x z h o) ∙ sym (law .number-at (low w x) (low-less x h) l))
 
   -- the elements on the contour of a first one are those with its number as their lowest
-  pub first-on : (x y : A) → first w x ≡ true → isOne y ≡ true → low w y ≡ number x → On w x y
+  pub first-on : (x y : A) → first w x ≡ true → isOne y ≡ true → low w y ≡ number x → OnContour w x y
   first-on x y f h e =
       let l = first-one x f in
-      on-swap w law y x h (subst (On w y) (ap at e ∙ law .at-number x l) (low-on y h))
+      on-swap w law y x h (subst (OnContour w y) (ap at e ∙ law .at-number x l) (low-on y h))
 
-  pub on-first : (x y : A) → first w x ≡ true → On w x y → low w y ≡ number x
+  pub on-first : (x y : A) → first w x ≡ true → OnContour w x y → low w y ≡ number x
   on-first x y f o = sym (low-same x y (first-one x f) o) ∙ first-low x f
 
   -- so each element is on the contour of one first element alone
-  pub first-unique : (x y z : A) → first w x ≡ true → first w y ≡ true → On w x z → On w y z → x ≡ y
+  pub first-unique : (x y z : A) → first w x ≡ true → first w y ≡ true → OnContour w x z → OnContour w y z → x ≡ y
   first-unique x y z f g o u =
       sym (law .at-number x (first-one x f)) ∙ ap at (sym (on-first x z f o) ∙ on-first y z g u) ∙ law .at-number y (first-one y g)
 

@@ -17,7 +17,7 @@ use Rattle.step.specs.declared.cell.CellSide.{CellSide}
 use Rattle.step.specs.declared.cell.Side.the-variants.{South, East, West}
 use Rattle.step.proofs.Links.{sameSide}
 use Rattle.step.proofs.Walks.{inner-column, behind-next, next-stick, next-other}
-use Rattle.contour.specs.Walk.{On, first, ahead as stepped}
+use Rattle.contour.specs.Walk.{OnContour, first, ahead as stepped}
 use Rattle.contour.specs.Contours.{walkOf}
 use Rattle.contour.proofs.Orbit.{ahead-next, ahead-one}
 use Rattle.contour.proofs.Members.{on-ahead, on-one}
@@ -129,7 +129,7 @@ module _ (L : Layer) (sound : Sound L) where
             (λ t. inr (λ j h. elim (ℕ-discrete j n) [ yes q ↦ rw q t | no d ↦ all j (omega arith) ]))
             (λ f. inl (n, f))
 
-    pub has-horizontal : (h : Edge) × On (walkOf L) e h × (h .vertical ≡ false)
+    pub has-horizontal : (h : Edge) × OnContour (walkOf L) e h × (h .vertical ≡ false)
     has-horizontal = elim (look (L .size .width + 1)) [
       | inl p ↦ (after (p .0), on-ahead (walkOf L) (laws L sound) e (p .0) stick, p .1)
       | inr all ↦ absurd (some-horizontal (λ j h. all j (omega arith)))

@@ -1,5 +1,6 @@
 -- Laws that the proofs of this crate and of those above it cite: on walks over numbered elements (Orbit to Marking), on the contours of a
--- layer (Sticks, Horizontal, Theorems, Examples), and on the set of first sticks and the scan that fills it (Words to FirstSets).
+-- layer (Sticks, Horizontal, Theorems, Examples), on the set of first sticks and the scan that fills it (Words to FirstSets), and on the cursor
+-- by which loops go from contour to contour (Cursors).
 pub mod Orbit
 pub mod Members
 pub mod First
@@ -16,3 +17,4 @@ pub mod Sets
 pub mod Bytes
 pub mod Scans
 pub mod FirstSets
+pub mod Cursors

@@ -11,14 +11,14 @@ use native.Mathlib.Nat.{eq-or-lt-of-le}
 use native.Mathlib.Omega.{arith}
 use lib.ListN.{length}
 use Rattle.arith.specs.Booleans.{asNumber}
-use Rattle.contour.specs.Walk.{Walk, Laws, rest, contour, occurrences, On, ahead, Round}
+use Rattle.contour.specs.Walk.{Walk, Laws, rest, contour, occurrences, OnContour, ahead, Round}
 use Rattle.contour.proofs.Orbit.{run, ahead-next, ahead-add, unlike, number-inj, rest-run, round}
 use Rattle.contour.proofs.Members.{run-place, run-once, place, on-self, on-next, on-ahead, on-one}
 
 -- x is on the contour of f, still to be worked on
 pub record Due (w : Walk) (f x : w .Element) : Type 0 where
   pub start-one : w .isOne f ≡ true
-  pub on : On w f x
+  pub on : OnContour w f x
 
 module _ (w : Walk) (law : Laws w) where
   open Walk w using (Element as A, same, number, next, isOne)
@@ -39,11 +39,11 @@ module _ (w : Walk) (law : Laws w) where
   last-at f r k e = rest-run w law f r k 0 (omega arith)
 
   -- all that is left there is on the contour, each element once
-  on-at : (f : A) → isOne f ≡ true → (k : ℕ) → k < length (contour w f) → (y : A) → 0 < occurrences w y (rest w (ahead w k f) f) → On w f y
+  on-at : (f : A) → isOne f ≡ true → (k : ℕ) → k < length (contour w f) → (y : A) → 0 < occurrences w y (rest w (ahead w k f) f) → OnContour w f y
   on-at f h k l y o =
       let m : ℕ = length (contour w f) - suc k in
       let q = run-place w law (suc m) (ahead w k f) y (rw (rest-run w law f (round w law f h) k m (omega arith)) at o) in
-      subst (On w f) (ahead-add w k (q .0) f ∙ q .2) (on-ahead w law f (k + q .0) h)
+      subst (OnContour w f) (ahead-add w k (q .0) f ∙ q .2) (on-ahead w law f (k + q .0) h)
 
   once-at : (f : A) → isOne f ≡ true → (k : ℕ) → k < length (contour w f) → (y : A) → occurrences w y (rest w (ahead w k f) f) ≤ 1
   once-at f h k l y =
@@ -69,7 +69,7 @@ module _ (w : Walk) (law : Laws w) where
     pub due-one : isOne x ≡ true
     due-one = on-one w law f x (due .start-one) (due .on)
 
-    pub rest-on : (y : A) → 0 < occurrences w y (rest w x f) → On w f y
+    pub rest-on : (y : A) → 0 < occurrences w y (rest w x f) → OnContour w f y
     rest-on y = let p = place-of in rw (p .2) at (on-at f (due .start-one) (p .0) (p .1) y)
 
     pub rest-once : (y : A) → occurrences w y (rest w x f) ≤ 1

@@ -11,7 +11,7 @@ use native.Mathlib.Omega.{arith}
 use Rattle.arith.specs.Booleans.{asNumber}
 use Rattle.arith.proofs.Booleans.{both-sides}
 use Rattle.arith.proofs.Finite.{asNumber-inj, asNumber-above}
-use Rattle.contour.specs.Walk.{Walk, Laws, contour, occurrences, On, low, first, seen}
+use Rattle.contour.specs.Walk.{Walk, Laws, contour, occurrences, OnContour, low, first, seen}
 use Rattle.contour.specs.Marking.{Marked}
 use Rattle.contour.proofs.Orbit.{same-true}
 use Rattle.contour.proofs.Members.{on-self, on-one}
@@ -68,7 +68,7 @@ module _ (w : Walk) (law : Laws w) (carries : w .Element → Bool) where
     module _ (bit′ : ℕ → Bool) where
       -- p is first, and the bits of its contour have been set
       pub mark-walked : first w (at p) ≡ true
-          → ((k : ℕ) → k < many → carries (at k) ≡ true → On w (at p) (at k) → bit′ k ≡ true)
+          → ((k : ℕ) → k < many → carries (at k) ≡ true → OnContour w (at p) (at k) → bit′ k ≡ true)
           → ((k : ℕ) → k < many → carries (at k) ≡ true → occurrences w (at k) (contour w (at p)) ≡ 0 → bit′ k ≡ bit k)
           → Marked w carries (p + 1) bit′
       mark-walked f set kept = record { below = below; from = from }
@@ -186,7 +186,7 @@ module _ (w : Walk) (law : Laws w) (carries : w .Element → Bool) where
     pub mark-contour : (p : ℕ) (t : B) → p < many → Ok t → first w (at p) ≡ true → Marked w carries p (bitOf t)
         → Marked w carries (p + 1) (bitOf (foldl work t (contour w (at p))))
     mark-contour p t less ok f m =
-        let ones : (y : A) → On w (at p) y → isOne y ≡ true = λ y o. on-one w law (at p) y (first-one w law (at p) f) o in
+        let ones : (y : A) → OnContour w (at p) y → isOne y ≡ true = λ y o. on-one w law (at p) y (first-one w law (at p) f) o in
         mark-walked p (bitOf t) less m (bitOf (foldl work t (contour w (at p)))) f
         (λ k b c o. bits-set (contour w (at p)) t ones ok k b c o)
         (λ k b c z. bits-kept (contour w (at p)) t ones ok k b z)

@@ -12,7 +12,7 @@ use Rattle.arith.specs.Booleans.{asNumber}
 use Rattle.arith.proofs.Booleans.{both-sides}
 use Rattle.arith.specs.Finite.{sum}
 use Rattle.arith.proofs.Finite.{sum-same, sum-add, sum-none, sum-single}
-use Rattle.contour.specs.Walk.{Walk, Laws, contour, occurrences, On, ahead}
+use Rattle.contour.specs.Walk.{Walk, Laws, contour, occurrences, OnContour, ahead}
 use Rattle.contour.proofs.Orbit.{run, ahead-next, ahead-add, same-true, same-false, ahead-one, round, contour-run}
 
 equal-counts : (a b : ℕ) → a ≤ 1 → b ≤ 1 → (0 < a → 0 < b) → (0 < b → 0 < a) → a ≡ b
@@ -75,62 +75,62 @@ module _ (w : Walk) (law : Laws w) where
   pub once : (x y : A) → isOne x ≡ true → occurrences w y (contour w x) ≤ 1
   once x y h = rw (contour-run w law x h) (run-once (length (contour w x)) x y (round w law x h .apart))
 
-  pub place : (x y : A) → isOne x ≡ true → On w x y → (k : ℕ) × (k < length (contour w x)) × (ahead w k x ≡ y)
+  pub place : (x y : A) → isOne x ≡ true → OnContour w x y → (k : ℕ) × (k < length (contour w x)) × (ahead w k x ≡ y)
   place x y h o = run-place (length (contour w x)) x y (rw (contour-run w law x h) at o)
 
-  on-place : (x : A) (k : ℕ) → isOne x ≡ true → k < length (contour w x) → On w x (ahead w k x)
+  on-place : (x : A) (k : ℕ) → isOne x ≡ true → k < length (contour w x) → OnContour w x (ahead w k x)
   on-place x k h l = rw (contour-run w law x h) (in-run (length (contour w x)) k x l)
 
-  pub on-self : (x : A) → isOne x ≡ true → On w x x
+  pub on-self : (x : A) → isOne x ≡ true → OnContour w x x
   unfolding ahead
   on-self x h = on-place x 0 h (round w law x h .some)
 
-  pub on-next : (x y : A) → isOne x ≡ true → On w x y → On w x (next y)
+  pub on-next : (x y : A) → isOne x ≡ true → OnContour w x y → OnContour w x (next y)
   unfolding ahead
   on-next x y h o =
       let p = place x y h o in
       let e : ahead w (suc (p .0)) x ≡ next y = ahead-next w (p .0) x ∙ ap next (p .2) in
       elim (eq-or-lt-of-le (p .1)) [
-        | inl q ↦ subst (On w x) (sym (round w law x h .back) ∙ ap (λ (n : ℕ). ahead w n x) (sym q) ∙ e) (on-self x h)
-        | inr l ↦ subst (On w x) e (on-place x (suc (p .0)) h l)
+        | inl q ↦ subst (OnContour w x) (sym (round w law x h .back) ∙ ap (λ (n : ℕ). ahead w n x) (sym q) ∙ e) (on-self x h)
+        | inr l ↦ subst (OnContour w x) e (on-place x (suc (p .0)) h l)
       ]
 
-  pub on-ahead : (x : A) (k : ℕ) → isOne x ≡ true → On w x (ahead w k x)
+  pub on-ahead : (x : A) (k : ℕ) → isOne x ≡ true → OnContour w x (ahead w k x)
   unfolding ahead
   on-ahead x zero h = on-self x h
-  on-ahead x (suc k) h = subst (On w x) (sym (ahead-next w k x)) (on-next x (ahead w k x) h (on-ahead x k h))
+  on-ahead x (suc k) h = subst (OnContour w x) (sym (ahead-next w k x)) (on-next x (ahead w k x) h (on-ahead x k h))
 
-  pub on-one : (x y : A) → isOne x ≡ true → On w x y → isOne y ≡ true
+  pub on-one : (x y : A) → isOne x ≡ true → OnContour w x y → isOne y ≡ true
   on-one x y h o = let p = place x y h o in subst (λ z. isOne z ≡ true) (p .2) (ahead-one w law (p .0) x h)
 
-  pub on-swap : (x y : A) → isOne x ≡ true → On w x y → On w y x
+  pub on-swap : (x y : A) → isOne x ≡ true → OnContour w x y → OnContour w y x
   on-swap x y h o =
       let p = place x y h o in
       let d : ℕ = length (contour w x) - p .0 in
       let e : p .0 + d ≡ length (contour w x) = omega arith in
-      subst (On w y)
+      subst (OnContour w y)
       (ap (ahead w d) (sym (p .2)) ∙ sym (ahead-add w (p .0) d x) ∙ ap (λ (n : ℕ). ahead w n x) e ∙ round w law x h .back)
       (on-ahead y d (on-one x y h o))
 
-  pub on-trans : (x y z : A) → isOne x ≡ true → On w x y → On w y z → On w x z
+  pub on-trans : (x y z : A) → isOne x ≡ true → OnContour w x y → OnContour w y z → OnContour w x z
   on-trans x y z h o u =
       let p = place x y h o in
       let q = place y z (on-one x y h o) u in
-      subst (On w x) (ahead-add w (p .0) (q .0) x ∙ ap (ahead w (q .0)) (p .2) ∙ q .2) (on-ahead x (p .0 + q .0) h)
+      subst (OnContour w x) (ahead-add w (p .0) (q .0) x ∙ ap (ahead w (q .0)) (p .2) ∙ q .2) (on-ahead x (p .0 + q .0) h)
 
-  pub on-prev : (x y : A) → isOne x ≡ true → On w x y → On w x (prev y)
+  pub on-prev : (x y : A) → isOne x ≡ true → OnContour w x y → OnContour w x (prev y)
   on-prev x y h o =
       let l = on-one x y h o in
       let b = law .one-prev y l in
-      let forth : On w (prev y) y = rw (law .next-prev y l) at (on-next (prev y) (prev y) b (on-self (prev y) b)) in
+      let forth : OnContour w (prev y) y = rw (law .next-prev y l) at (on-next (prev y) (prev y) b (on-self (prev y) b)) in
       on-trans x y (prev y) h o (on-swap (prev y) y b forth)
 
   -- two contours share an element only if they are of one orbit
-  pub on-share : (x y z : A) → isOne x ≡ true → isOne y ≡ true → On w x z → On w y z → On w x y
+  pub on-share : (x y z : A) → isOne x ≡ true → isOne y ≡ true → OnContour w x z → OnContour w y z → OnContour w x y
   on-share x y z h l o u = on-trans x z y h o (on-swap y z l u)
 
   -- the contours of two elements of one orbit are permutations of each other
-  pub permuted : (x y : A) → isOne x ≡ true → On w x y → (z : A) → occurrences w z (contour w x) ≡ occurrences w z (contour w y)
+  pub permuted : (x y : A) → isOne x ≡ true → OnContour w x y → (z : A) → occurrences w z (contour w x) ≡ occurrences w z (contour w y)
   permuted x y h o z =
       let l = on-one x y h o in
       equal-counts (occurrences w z (contour w x)) (occurrences w z (contour w y)) (once x z h) (once y z l)
@@ -159,7 +159,7 @@ module _ (w : Walk) (law : Laws w) where
           sum-single (λ k. asNumber (same (at k) x)) many (number x) (law .number-less x h) other
           ∙ ap asNumber (same-true w law (law .at-number x h))
 
-  pub permuted-length : (x y : A) → isOne x ≡ true → On w x y → length (contour w x) ≡ length (contour w y)
+  pub permuted-length : (x y : A) → isOne x ≡ true → OnContour w x y → length (contour w x) ≡ length (contour w y)
   permuted-length x y h o =
       sym (length-counts (contour w x) (λ z u. on-one x z h u))
       ∙ sum-same (λ k. occurrences w (at k) (contour w x)) (λ k. occurrences w (at k) (contour w y)) many (λ k b. permuted x y h o (at k))

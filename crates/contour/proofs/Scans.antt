@@ -18,8 +18,8 @@ use Rattle.grid.specs.declared.edge.Edge.{Edge}
 use Rattle.grid.proofs.Numbers.{in-grid, kind-below, edgeAt-number}
 use Rattle.contour.specs.Walk.{first}
 use Rattle.contour.specs.Contours.{walkOf, contourOf}
-use Rattle.contour.specs.Sets.{words, places, has, Empty, FirstSet}
-use Rattle.contour.specs.Marking.{with, without, markEdge, horizontal, Scanned}
+use Rattle.contour.specs.Sets.{words, setBits, has, Empty, FirstSet}
+use Rattle.contour.specs.Marking.{withNumber, withoutNumber, markEdge, horizontal, Scanned}
 use Rattle.contour.proofs.Members.{on-one}
 use Rattle.contour.proofs.Sticks.{laws}
 use Rattle.contour.proofs.Horizontal.{horizontal-low, first-horizontal}
@@ -31,22 +31,22 @@ pub horizontal-number : (size : Size) (e : Edge) → e .vertical ≡ false → n
 unfolding number
 horizontal-number size e f = rw f (omega arith)
 
-pub horizontal-fits : (size : Size) → Sized size → kindStart size true ≤ places
+pub horizontal-fits : (size : Size) → Sized size → kindStart size true ≤ setBits
 horizontal-fits size sized =
     mul-le-mul {n₁ = size .height} {m₁ = size .width - 1} {n₂ = 1024} {m₂ = 1023} (omega (arith, sized)) (omega (arith, sized))
 
 pub mark-vertical : (size : Size) (t : List ℕ) (e : Edge) → e .vertical ≡ true → markEdge size t e ≡ t
-mark-vertical size t e v = ap (λ (b : Bool). cond b t (with t (number size e))) v
+mark-vertical size t e v = ap (λ (b : Bool). cond b t (withNumber t (number size e))) v
 
-pub mark-horizontal : (size : Size) (t : List ℕ) (e : Edge) → e .vertical ≡ false → markEdge size t e ≡ with t (number size e)
-mark-horizontal size t e f = ap (λ (b : Bool). cond b t (with t (number size e))) f
+pub mark-horizontal : (size : Size) (t : List ℕ) (e : Edge) → e .vertical ≡ false → markEdge size t e ≡ withNumber t (number size e)
+mark-horizontal size t e f = ap (λ (b : Bool). cond b t (withNumber t (number size e))) f
 
 -- what every store to the set keeps: its length, and that nothing past the horizontal edges is in it
 abbrev pub Kept : Layer → List ℕ → Type 0
 Kept L t = (length t ≡ words) × ((k : ℕ) → kindStart (L .size) true ≤ k → has t k ≡ false)
 
 module _ (L : Layer) (sound : Sound L) where
-  pub place-below : (e : Edge) → isStick L e ≡ true → e .vertical ≡ false → number (L .size) e < places
+  pub place-below : (e : Edge) → isStick L e ≡ true → e .vertical ≡ false → number (L .size) e < setBits
   place-below e h f = omega (arith, horizontal-low L sound e h f, horizontal-fits (L .size) (sound .whole .sized))
 
   -- Marking a contour
@@ -92,18 +92,18 @@ module _ (L : Layer) (sound : Sound L) where
     less : p < edgeCount (L .size)
     less = rw is-p (laws L sound .number-less e stick)
 
-    fits : p < places
+    fits : p < setBits
     fits = rw is-p (place-below e stick f)
 
     carried : horizontal (edgeAt (L .size) p) ≡ true
     carried = ap horizontal at-p ∙ ap not f
 
     -- its bit is set: it is cleared
-    pub scan-set : has t p ≡ true → Scanned L (p + 1) (without t p)
+    pub scan-set : has t p ≡ true → Scanned L (p + 1) (withoutNumber t p)
     scan-set h = record {
       sized = length-without t p (scanned .sized) fits;
       marked =
-          mark-passed (walkOf L) (laws L sound) horizontal p (has t) less (scanned .marked) (has (without t p))
+          mark-passed (walkOf L) (laws L sound) horizontal p (has t) less (scanned .marked) (has (withoutNumber t p))
           (mark-set (walkOf L) (laws L sound) horizontal p (has t) less (scanned .marked) carried h)
           (λ c. has-without t p (scanned .sized) fits h)
           (λ k b c n. has-without-other t p (scanned .sized) fits k n);
@@ -164,7 +164,7 @@ module _ (L : Layer) (sound : Sound L) where
           let e : base + k ≡ j = omega arith in
           rw e at (ap (isStick L) (edge-at k r (omega arith) hr) ∙ none k (omega arith) (omega arith))
 
-  pub stick-place : (c r : ℕ) → isStick L (record { vertical = false; column = c; row = r }) ≡ true → r * (L .size .width - 1) + c < places
+  pub stick-place : (c r : ℕ) → isStick L (record { vertical = false; column = c; row = r }) ≡ true → r * (L .size .width - 1) + c < setBits
   stick-place c r h =
       let e : Edge = record { vertical = false; column = c; row = r } in
       rw (horizontal-number (L .size) e refl) at (place-below e h refl)
@@ -179,7 +179,7 @@ module _ (L : Layer) (sound : Sound L) where
   }
     where
       clear : (k : ℕ) → has t k ≡ false
-      clear k = elim (decLt k places) [
+      clear k = elim (decLt k setBits) [
         | yes l ↦ has-none t empty k l
         | no g ↦ has-past t (empty .sized) k (omega arith)
       ]
@@ -201,7 +201,7 @@ module _ (L : Layer) (sound : Sound L) where
   ]
 
   pub scan-end : (t : List ℕ) → Scanned L (kindStart (L .size) true) t → FirstSet L t
-  scan-end t s = record { sized = s .sized; says = says }
+  scan-end t s = record { sound = sound; sized = s .sized; says = says }
     where
       unfirst : (n : ℕ) → kindStart (L .size) true ≤ n → first (walkOf L) (edgeAt (L .size) n) ≡ false
       unfirst n l = both-sides (first (walkOf L) (edgeAt (L .size) n))

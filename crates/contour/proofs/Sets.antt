@@ -14,8 +14,8 @@ use Rattle.arith.proofs.Ranges.{count-add, count-same, leastFrom-is, leastFrom-
 use Rattle.arith.proofs.Finite.{least-from}
 use Rattle.grid.specs.Layer.{bit}
 use Rattle.grid.proofs.Masks.{bit-xor}
-use Rattle.contour.specs.Sets.{words, places, has, Empty}
-use Rattle.contour.specs.Marking.{with, without}
+use Rattle.contour.specs.Sets.{words, setBits, has, Empty}
+use Rattle.contour.specs.Marking.{withNumber, withoutNumber}
 use Rattle.contour.proofs.Words.{bit-or, bit-power, bit-power-other, bit-zero}
 
 -- a word stored: the numbers of that word are read from it, and no other changes
@@ -40,46 +40,46 @@ xor-both : (a b : Bool) → a ≡ true → b ≡ true → xor a b ≡ false
 unfolding xor
 xor-both a b ea eb = rw (ea, eb)
 
-module _ (t : List ℕ) (n : ℕ) (sized : length t ≡ words) (less : n < places) where
+module _ (t : List ℕ) (n : ℕ) (sized : length t ≡ words) (less : n < setBits) where
   word-in : n / 64 < length t
   word-in = omega arith
 
-  pub has-with : has (with t n) n ≡ true
-  unfolding with
+  pub has-with : has (withNumber t n) n ≡ true
+  unfolding withNumber
   has-with =
       has-stored t n (bitOr (getD t (n / 64) 0) (2 ^ (n % 64))) word-in
       ∙ bit-or (getD t (n / 64) 0) (2 ^ (n % 64)) (n % 64)
       ∙ rw (bit-power (n % 64)) (or-true (bit (getD t (n / 64) 0) (n % 64)))
 
-  pub has-with-other : (k : ℕ) → k ≢ n → has (with t n) k ≡ has t k
-  unfolding with
+  pub has-with-other : (k : ℕ) → k ≢ n → has (withNumber t n) k ≡ has t k
+  unfolding withNumber
   has-with-other k d =
       has-kept t n (bitOr (getD t (n / 64) 0) (2 ^ (n % 64))) k word-in d
       (λ b e.
       bit-or (getD t (n / 64) 0) (2 ^ (n % 64)) b
       ∙ rw (bit-power-other (n % 64) b e) (or-false (bit (getD t (n / 64) 0) b)))
 
-  pub has-without : has t n ≡ true → has (without t n) n ≡ false
-  unfolding without has
+  pub has-without : has t n ≡ true → has (withoutNumber t n) n ≡ false
+  unfolding withoutNumber has
   has-without h =
       has-stored t n (bitXor (getD t (n / 64) 0) (2 ^ (n % 64))) word-in
       ∙ bit-xor (getD t (n / 64) 0) (2 ^ (n % 64)) (n % 64)
       ∙ xor-both (bit (getD t (n / 64) 0) (n % 64)) (bit (2 ^ (n % 64)) (n % 64)) h (bit-power (n % 64))
 
-  pub has-without-other : (k : ℕ) → k ≢ n → has (without t n) k ≡ has t k
-  unfolding without
+  pub has-without-other : (k : ℕ) → k ≢ n → has (withoutNumber t n) k ≡ has t k
+  unfolding withoutNumber
   has-without-other k d =
       has-kept t n (bitXor (getD t (n / 64) 0) (2 ^ (n % 64))) k word-in d
       (λ b e.
       bit-xor (getD t (n / 64) 0) (2 ^ (n % 64)) b
       ∙ rw (bit-power-other (n % 64) b e) (xor-false (bit (getD t (n / 64) 0) b)))
 
-  pub length-with : length (with t n) ≡ words
-  unfolding with
+  pub length-with : length (withNumber t n) ≡ words
+  unfolding withNumber
   length-with = length-set t (n / 64) (bitOr (getD t (n / 64) 0) (2 ^ (n % 64))) ∙ sized
 
-  pub length-without : length (without t n) ≡ words
-  unfolding without
+  pub length-without : length (withoutNumber t n) ≡ words
+  unfolding withoutNumber
   length-without = length-set t (n / 64) (bitXor (getD t (n / 64) 0) (2 ^ (n % 64))) ∙ sized
 
 -- an array of zeros is an empty set
@@ -87,12 +87,12 @@ pub empty-set : Empty (replicate words 0)
 empty-set = record { sized = length-replicate {A = ℕ} words 0; none = λ k h. getD-replicate {A = ℕ} words k 0 0 h }
 
 -- no number is in an empty set
-pub has-none : (t : List ℕ) → Empty t → (k : ℕ) → k < places → has t k ≡ false
+pub has-none : (t : List ℕ) → Empty t → (k : ℕ) → k < setBits → has t k ≡ false
 unfolding has
 has-none t empty k h = rw (empty .none (k / 64) (omega arith)) (bit-zero (k % 64))
 
 -- and none past the end in any
-pub has-past : (t : List ℕ) → length t ≡ words → (k : ℕ) → places ≤ k → has t k ≡ false
+pub has-past : (t : List ℕ) → length t ≡ words → (k : ℕ) → setBits ≤ k → has t k ≡ false
 unfolding has
 has-past t sized k h = rw (List·getD-eq-default t 0 {n = k / 64} (omega arith)) (bit-zero (k % 64))
 

@@ -17,7 +17,7 @@ use Rattle.grid.specs.Counts.{stickCount}
 use Rattle.grid.specs.Questions.{Sized, Sound}
 use Rattle.grid.specs.declared.layer.Size.{Size}
 use Rattle.grid.specs.declared.edge.Edge.{Edge}
-use Rattle.grid.proofs.Numbers.{Within, within, in-kind-below}
+use Rattle.grid.proofs.Numbers.{WithinGrid, within, in-kind-below}
 use Rattle.contour.specs.Walk.{occurrences, first, low, walked, ahead, Round}
 use Rattle.contour.specs.Contours.{walkOf, contourOf, firstSticks, contourCount, earlier}
 use Rattle.contour.proofs.Orbit.{round, contour-at}
@@ -153,7 +153,7 @@ number-order size sized e f he hf =
     go : (v u : Bool) (c r d q : ℕ)
         → let e : Edge = record { vertical = v; column = c; row = r } in
         let f : Edge = record { vertical = u; column = d; row = q } in
-        Within size e → Within size f
+        WithinGrid size e → WithinGrid size f
         → r * edgeColumns size v + c < edgeRows size v * edgeColumns size v
         → q * edgeColumns size u + d < edgeRows size u * edgeColumns size u
         → ltb (kindStart size v + (r * edgeColumns size v + c)) (kindStart size u + (q * edgeColumns size u + d)) ≡ earlier e f

@@ -14,15 +14,15 @@ use Rattle.contour.specs.Contours.{walkOf}
 use Rattle.contour.specs.Sets.{words, has}
 
 -- the set with n in it, and, where n is in it, without
-unfoldable pub with : List ℕ → ℕ → List ℕ
-with t n = set t (n / 64) (bitOr (getD t (n / 64) 0) (2 ^ (n % 64)))
+unfoldable pub withNumber : List ℕ → ℕ → List ℕ
+withNumber t n = set t (n / 64) (bitOr (getD t (n / 64) 0) (2 ^ (n % 64)))
 
-unfoldable pub without : List ℕ → ℕ → List ℕ
-without t n = set t (n / 64) (bitXor (getD t (n / 64) 0) (2 ^ (n % 64)))
+unfoldable pub withoutNumber : List ℕ → ℕ → List ℕ
+withoutNumber t n = set t (n / 64) (bitXor (getD t (n / 64) 0) (2 ^ (n % 64)))
 
 -- the bit of a stick is set as the walk passes it; vertical sticks have none
 abbrev pub markEdge : Size → List ℕ → Edge → List ℕ
-markEdge size t e = cond (e .vertical) t (with t (number size e))
+markEdge size t e = cond (e .vertical) t (withNumber t (number size e))
 
 abbrev pub horizontal : Edge → Bool
 horizontal e = not (e .vertical)

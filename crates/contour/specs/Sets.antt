@@ -7,6 +7,7 @@ use lib.ListN.{length, getD}
 use Rattle.arith.specs.Ranges.{count, leastFrom}
 use Rattle.grid.specs.Layer.{Layer, bit}
 use Rattle.grid.specs.Edges.{edgeAt}
+use Rattle.grid.specs.Questions.{Sound}
 use Rattle.contour.specs.Walk.{first}
 use Rattle.contour.specs.Contours.{walkOf}
 
@@ -14,8 +15,8 @@ use Rattle.contour.specs.Contours.{walkOf}
 abbrev pub words : ℕ
 words = 16368
 
-abbrev pub places : ℕ
-places = 1047552
+abbrev pub setBits : ℕ
+setBits = 1047552
 
 -- whether n is in the set: bit n mod 64 of word n div 64
 unfoldable pub has : List ℕ → ℕ → Bool
@@ -26,8 +27,9 @@ pub record Empty (t : List ℕ) : Type 0 where
   pub sized : length t ≡ words
   pub none : (k : ℕ) → k < words → getD t k 0 ≡ 0
 
--- the set is that of the first sticks: bit n says whether edge n is one, for every n
+-- the set is that of the first sticks of a sound layer: bit n says whether edge n is one, for every n
 pub record FirstSet (L : Layer) (t : List ℕ) : Type 0 where
+  pub sound : Sound L
   pub sized : length t ≡ words
   pub says : (n : ℕ) → has t n ≡ first (walkOf L) (edgeAt (L .size) n)
 
@@ -35,5 +37,5 @@ pub record FirstSet (L : Layer) (t : List ℕ) : Type 0 where
 abbrev pub nextIn : List ℕ → ℕ → ℕ → ℕ
 nextIn t n end = leastFrom (has t) n (end - n)
 
-abbrev pub sizeOf : List ℕ → ℕ
-sizeOf t = count (has t) places
+abbrev pub memberCount : List ℕ → ℕ
+memberCount t = count (has t) setBits

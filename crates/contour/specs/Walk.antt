@@ -8,7 +8,6 @@ use mathlib.Core.List.{List, [], _∷_, map, flatten}
 use Prim.Native.Nat.{ℕ, zero, suc, _+_, _-_, _≤_, _<_, min}
 use lib.Dec.{eqb, ltb}
 use Rattle.arith.specs.Booleans.{asNumber}
-use Rattle.arith.specs.Ranges.{leastFrom}
 
 -- What walks.
 pub record Walk : Type 1 where
@@ -53,8 +52,8 @@ module _ (w : Walk) where
   occurrences y (x ∷ l) = asNumber (same y x) + occurrences y l
 
   -- y is on the contour of x
-  abbrev pub On : A → A → Type 0
-  On x y = 0 < occurrences y (contour x)
+  abbrev pub OnContour : A → A → Type 0
+  OnContour x y = 0 < occurrences y (contour x)
 
   -- the lowest of m and the numbers of a list's elements
   unfoldable pub lowest : ℕ → List A → ℕ
@@ -82,12 +81,9 @@ module _ (w : Walk) where
   firstsAmong k zero = []
   firstsAmong k (suc n) = consIf (first (at k)) (at k) (firstsAmong (k + 1) n)
 
-  -- the first elements with numbers from p on, and their contours
+  -- the first elements with numbers from p on
   abbrev pub firstsFrom : ℕ → List A
   firstsFrom p = firstsAmong p (many - p)
-
-  abbrev pub contoursFrom : ℕ → List (List A)
-  contoursFrom p = map contour (firstsFrom p)
 
   -- all first elements, ascending, and all contours, in that order
   abbrev pub firsts : List A
@@ -99,10 +95,6 @@ module _ (w : Walk) where
   -- all contours, one after the other
   abbrev pub walked : List A
   walked = flatten contours
-
-  -- the least number from p on that is a first element's, or `many` if there is none
-  abbrev pub nextFirst : ℕ → ℕ
-  nextFirst p = leastFrom (λ k. first (at k)) p (many - p)
 
   -- the element n steps ahead of x
   unfoldable pub ahead : ℕ → A → A

@@ -6,8 +6,8 @@ ghost use Prim.Native.Nat.{ℕ, _-_, _≤_, _<_, min};
 ghost use lib.ListN.{length};
 ghost use Rattle.arith.specs.Ranges.{count, least, leastFrom};
 ghost use Rattle.grid.specs.Layer.{bit};
-ghost use Rattle.contour.specs.Sets.{words, places, has, nextIn, sizeOf};
-ghost use Rattle.contour.specs.Marking.{with, without};
+ghost use Rattle.contour.specs.Sets.{words, setBits, has, nextIn, memberCount};
+ghost use Rattle.contour.specs.Marking.{withNumber, withoutNumber};
 
 // How many words a set has: a bit for each horizontal edge of a layer of 1,024 × 1,024.
 pub const WORDS: usize = 16368;
@@ -17,7 +17,7 @@ pub type EdgeSet = [u64; WORDS];
 
 pub fn contains(set: &EdgeSet, n: usize) -> bool
     requires { ⌜ length (now set) ≡ words ⌝ }
-    requires { ⌜ n < places ⌝ }
+    requires { ⌜ n < setBits ⌝ }
     ensures { λ r. ⌜ r ≡ has (now (set .entry)) n ⌝ }
 {
     let word = n / 64;
@@ -26,8 +26,8 @@ pub fn contains(set: &EdgeSet, n: usize) -> bool
 
 pub fn insert(set: &mut EdgeSet, n: usize)
     requires { ⌜ length (now set) ≡ words ⌝ }
-    requires { ⌜ n < places ⌝ }
-    ensures { λ r. ⌜ now (set .exit) ≡ with (now (set .entry)) n ⌝ }
+    requires { ⌜ n < setBits ⌝ }
+    ensures { λ r. ⌜ now (set .exit) ≡ withNumber (now (set .entry)) n ⌝ }
 {
     let word = n / 64;
     set[word] = set[word] | (1 << (n % 64));
@@ -36,8 +36,8 @@ pub fn insert(set: &mut EdgeSet, n: usize)
 // Takes a number out that is in the set.
 pub fn remove(set: &mut EdgeSet, n: usize)
     requires { ⌜ length (now set) ≡ words ⌝ }
-    requires { ⌜ n < places ⌝ }
-    ensures { λ r. ⌜ now (set .exit) ≡ without (now (set .entry)) n ⌝ }
+    requires { ⌜ n < setBits ⌝ }
+    ensures { λ r. ⌜ now (set .exit) ≡ withoutNumber (now (set .entry)) n ⌝ }
 {
     let word = n / 64;
     set[word] = set[word] ^ (1 << (n % 64));
@@ -84,7 +84,7 @@ fn at_most(n: usize, end: usize) -> usize
 pub fn next_first(set: &EdgeSet, from: usize, end: usize) -> usize
     requires { ⌜ length (now set) ≡ words ⌝ }
     requires { ⌜ from ≤ end ⌝ }
-    requires { ⌜ end ≤ places ⌝ }
+    requires { ⌜ end ≤ setBits ⌝ }
     ensures { λ r. ⌜ r ≡ nextIn (now (set .entry)) from end ⌝ }
 {
     if from == end {
@@ -109,9 +109,9 @@ pub fn next_first(set: &EdgeSet, from: usize, end: usize) -> usize
 // How many numbers the set has, of which none is `end` or above. The scan stops at the word that holds `end`.
 pub fn contour_count(set: &EdgeSet, end: usize) -> usize
     requires { ⌜ length (now set) ≡ words ⌝ }
-    requires { ⌜ end ≤ places ⌝ }
+    requires { ⌜ end ≤ setBits ⌝ }
     requires { ⌜ ((n : ℕ) → end ≤ n → has (now set) n ≡ false) ⌝ }
-    ensures { λ r. ⌜ r ≡ sizeOf (now (set .entry)) ⌝ }
+    ensures { λ r. ⌜ r ≡ memberCount (now (set .entry)) ⌝ }
 {
     let mut sum: usize = 0;
     let mut word = 0;

@@ -12,7 +12,7 @@ use Rattle.grid.specs.Questions.{Sound}
 use Rattle.grid.specs.declared.edge.Edge.{Edge}
 use Rattle.step.specs.Cells.{Corners, corners, cut, partner, link, edgeOn, edgeOf, sideIndex}
 use Rattle.step.specs.Walk.{upward, ahead, next}
-use Rattle.step.specs.Turns.{left}
+use Rattle.step.specs.Turns.{insideLeft}
 use Rattle.step.specs.declared.cell.CellSide.{CellSide}
 use Rattle.step.specs.declared.cell.Side.{Side}
 use Rattle.step.specs.declared.cell.Side.the-variants.{South, East, North, West}
@@ -33,7 +33,7 @@ leftCorner West = NorthWest
 
 -- the walk enters a cell by a side that is cut and has inside on its left
 abbrev entered : Corners → Side → Bool
-entered k s = cut k s && left k s
+entered k s = cut k s && insideLeft k s
 
 -- if a cell is entered by two sides, the link from the one cuts off the corner on its left, and that from the other the opposite one
 abbrev cutOff : Side → Corners → Side → Bool

@@ -19,7 +19,7 @@ use Rattle.grid.specs.declared.question.Answer.the-variants.{Yes}
 use Rattle.grid.proofs.Numbers.{edgeAt-within}
 use Rattle.step.specs.Walk.{next}
 use Rattle.step.proofs.Walks.{next-stick}
-use Rattle.contour.specs.Walk.{occurrences, On, ahead, walked}
+use Rattle.contour.specs.Walk.{occurrences, OnContour, ahead, walked}
 use Rattle.contour.specs.Contours.{walkOf, contourOf, firstSticks, sameEdge}
 use Rattle.contour.proofs.Orbit.{run, round, contour-run}
 use Rattle.contour.proofs.Members.{once, on-one, on-next, on-self, on-swap, on-trans, length-counts}
@@ -79,24 +79,24 @@ keptFromHere L t x = cond (keptAt L t x) x (nextKept L t x)
 -- Of one contour
 module _ (L : Layer) (t : List ℕ) (sound : Sound L) (f : Edge) (stick : isStick L f ≡ true) where
   -- they start at its kept vertices,
-  pub starts-only : (e : Edge) → 0 < occurrences (walkOf L) e (starts (drawnOf L t f)) → Drawn L t e × On (walkOf L) f e
+  pub starts-only : (e : Edge) → 0 < occurrences (walkOf L) e (starts (drawnOf L t f)) → Drawn L t e × OnContour (walkOf L) f e
   starts-only e o =
       let often = start-counts L t e (contourOf L f) in
       both-sides (keptAt L t e)
       (λ k.
-      let on : On (walkOf L) f e = omega (arith, rw k at often) in
+      let on : OnContour (walkOf L) f e = omega (arith, rw k at often) in
       (record { stick = on-one (walkOf L) (laws L sound) f e stick on; kept = k }, on))
       (λ k. absurd (omega (arith, rw k at often)))
 
   -- each at one,
-  pub starts-once : (e : Edge) → Drawn L t e → On (walkOf L) f e → occurrences (walkOf L) e (starts (drawnOf L t f)) ≡ 1
+  pub starts-once : (e : Edge) → Drawn L t e → OnContour (walkOf L) f e → occurrences (walkOf L) e (starts (drawnOf L t f)) ≡ 1
   starts-once e d on =
       omega (arith, rw (d .kept) at (start-counts L t e (contourOf L f)), once (walkOf L) (laws L sound) f e stick)
 
   -- and if it has one, each begins where the one before ended, and the last ends where the first began.
-  module _ (vertices : Vertices L t) (y : Edge) (on-y : On (walkOf L) f y) (y-kept : keptAt L t y ≡ true) where
+  module _ (vertices : Vertices L t) (y : Edge) (on-y : OnContour (walkOf L) f y) (y-kept : keptAt L t y ≡ true) where
     -- the next kept vertex is the first from the next stick on
-    after : (x : Edge) → On (walkOf L) f x → nextKept L t x ≡ keptFromHere L t (next L x)
+    after : (x : Edge) → OnContour (walkOf L) f x → nextKept L t x ≡ keptFromHere L t (next L x)
     after x on = both-sides (removedAt L t (next L x))
         (λ r. next-over L t sound vertices x y one to-y y-kept r ∙ skipped r)
         (λ r. next-here L t sound vertices x y one to-y y-kept r
@@ -105,13 +105,13 @@ module _ (L : Layer) (t : List ℕ) (sound : Sound L) (f : Edge) (stick : isStic
         one : isStick L x ≡ true
         one = on-one (walkOf L) (laws L sound) f x stick on
 
-        to-y : On (walkOf L) x y
+        to-y : OnContour (walkOf L) x y
         to-y = on-trans (walkOf L) (laws L sound) x f y one (on-swap (walkOf L) (laws L sound) f x stick on) on-y
 
         skipped : removedAt L t (next L x) ≡ true → nextKept L t (next L x) ≡ keptFromHere L t (next L x)
         skipped r = both-sides (keptAt L t (next L x)) (λ k. absurd (not-both L t (next L x) k r)) (λ k. rw k)
 
-    leads : (n : ℕ) (x : Edge) → On (walkOf L) f x
+    leads : (n : ℕ) (x : Edge) → OnContour (walkOf L) f x
         → Leads (keptFromHere L t x) (drawnAmong L t (run (walkOf L) n x)) (keptFromHere L t (ahead (walkOf L) n x))
     unfolding run ahead
     leads zero x on = refl

@@ -17,7 +17,7 @@ use Rattle.grid.specs.declared.edge.Edge.{Edge}
 use Rattle.grid.proofs.Numbers.{number-below}
 use Rattle.step.specs.Walk.{next}
 use Rattle.step.proofs.Walks.{next-stick}
-use Rattle.contour.specs.Walk.{occurrences, On}
+use Rattle.contour.specs.Walk.{occurrences, OnContour}
 use Rattle.contour.specs.Contours.{walkOf, contourOf, sameEdge}
 use Rattle.contour.proofs.Orbit.{same-false}
 use Rattle.contour.proofs.Members.{on-self, on-next, on-one}
@@ -65,17 +65,17 @@ among-length g (x ∷ l) = omega (arith, among-length g l, one-le (g x))
 
 module _ (L : Layer) (t : List ℕ) (sound : Sound L) (vertices : Vertices L t) where
   -- the next kept vertex is on the same contour
-  pub keptFrom-on : (f : Edge) → isStick L f ≡ true → (n : ℕ) (e : Edge) → On (walkOf L) f e → On (walkOf L) f (keptFrom (next L) L t n e)
+  pub keptFrom-on : (f : Edge) → isStick L f ≡ true → (n : ℕ) (e : Edge) → OnContour (walkOf L) f e → OnContour (walkOf L) f (keptFrom (next L) L t n e)
   unfolding keptFrom
   keptFrom-on f stick zero e o = on-next (walkOf L) (laws L sound) f e stick o
   keptFrom-on f stick (suc n) e o = both-sides (removedAt L t (next L e))
       (λ r. rw (kept-over (next L) L t n e r) (keptFrom-on f stick n (next L e) (on-next (walkOf L) (laws L sound) f e stick o)))
       (λ r. rw (kept-here (next L) L t (suc n) e r) (on-next (walkOf L) (laws L sound) f e stick o))
 
-  pub four-kept : (f : Edge) → isStick L f ≡ true → (x : Edge) → On (walkOf L) f x → keptAt L t x ≡ true
-      → ((p : Edge) → On (walkOf L) f p → Drawn L t p → edgeCrosses L t p ≡ true) → 4 ≤ among (keptAt L t) (contourOf L f)
+  pub four-kept : (f : Edge) → isStick L f ≡ true → (x : Edge) → OnContour (walkOf L) f x → keptAt L t x ≡ true
+      → ((p : Edge) → OnContour (walkOf L) f p → Drawn L t p → edgeCrosses L t p ≡ true) → 4 ≤ among (keptAt L t) (contourOf L f)
   four-kept f stick a oa ka over =
-      let onward : (e : Edge) → On (walkOf L) f e → On (walkOf L) f (nextKept L t e) = keptFrom-on f stick (edgeCount (L .size)) in
+      let onward : (e : Edge) → OnContour (walkOf L) f e → OnContour (walkOf L) f (nextKept L t e) = keptFrom-on f stick (edgeCount (L .size)) in
       let b = nextKept L t a in
       let c = nextKept L t b in
       let d = nextKept L t c in

@@ -20,7 +20,7 @@ use Rattle.grid.specs.Edges.{number, edgeAt, edgeCount, isStick}
 use Rattle.grid.specs.Questions.{Sound}
 use Rattle.grid.specs.declared.edge.Edge.{Edge}
 use Rattle.step.specs.Walk.{next, prev}
-use Rattle.contour.specs.Walk.{Walk, Laws, On, contour, ahead, Round}
+use Rattle.contour.specs.Walk.{Walk, Laws, OnContour, contour, ahead, Round}
 use Rattle.contour.specs.Contours.{sameEdge}
 use Rattle.contour.proofs.Orbit.{run, ahead-next, ahead-one, length-run, round}
 use Rattle.contour.proofs.Members.{on-ahead, on-one}
@@ -95,89 +95,93 @@ module _ (step undo : Edge → Edge) (L : Layer) (t : List ℕ) where
     pub removed : (j : ℕ) → j < gap → removedAt L t (ahead walk (suc j) e) ≡ true
     pub within : gap < length (contour walk e)
 
-  module _ (law : Laws walk) (e : Edge) (stick : isStick L e ≡ true) where
-    round-of : Round walk e (length (contour walk e))
-    round-of = round walk law e stick
+-- the walk is back at e after a round
+round-of : {step undo : Edge → Edge} (L : Layer) (law : Laws (walkBy step undo L)) {e : Edge} → isStick L e ≡ true
+    → Round (walkBy step undo L) e (length (contour (walkBy step undo L) e))
+round-of {step} {undo} L law {e} stick = round (walkBy step undo L) law e stick
 
-    pub passed-start : Passed e e 0
-    unfolding ahead
-    passed-start = record { met = refl; removed = λ j h. absurd (omega arith); within = round-of .some }
+module _ {step undo : Edge → Edge} {t : List ℕ} (L : Layer) (law : Laws (walkBy step undo L)) {e : Edge} (stick : isStick L e ≡ true) where
+  pub passed-start : Passed step undo L t e e 0
+  unfolding ahead
+  passed-start = record { met = refl; removed = λ j h. absurd (omega arith); within = round-of L law stick .some }
 
-    pub passed-here : (x : Edge) (gap : ℕ) → Passed e x gap → isStick L x ≡ true
-    passed-here x gap p = subst (λ y. isStick L y ≡ true) (p .met) (ahead-one walk law gap e stick)
+  module _ {x : Edge} {gap : ℕ} (p : Passed step undo L t e x gap) where
+    pub passed-here : isStick L x ≡ true
+    passed-here = subst (λ y. isStick L y ≡ true) (p .met) (ahead-one (walkBy step undo L) law gap e stick)
 
-    pub passed-below : (x : Edge) (gap : ℕ) → Passed e x gap → gap < edgeCount (L .size)
-    passed-below x gap p = omega (arith, p .within, round-of .within)
+    pub passed-below : gap < edgeCount (L .size)
+    passed-below = omega (arith, p .within, round-of L law stick .within)
 
-    module _ (x x′ : Edge) (gap : ℕ) (p : Passed e x gap) (by : x′ ≡ step x) where
-      ahead-of : ahead walk (suc gap) e ≡ x′
+    module _ {x′ : Edge} (by : x′ ≡ step x) where
+      ahead-of : ahead (walkBy step undo L) (suc gap) e ≡ x′
       unfolding ahead
-      ahead-of = ahead-next walk gap e ∙ ap step (p .met) ∙ sym by
+      ahead-of = ahead-next (walkBy step undo L) gap e ∙ ap step (p .met) ∙ sym by
 
       pub passed-stick : isStick L x′ ≡ true
-      passed-stick = subst (λ y. isStick L y ≡ true) ahead-of (ahead-one walk law (suc gap) e stick)
+      passed-stick = subst (λ y. isStick L y ≡ true) ahead-of (ahead-one (walkBy step undo L) law (suc gap) e stick)
 
       -- the next one is removed, so it is not e again
-      pub passed-turn : removedAt L t e ≡ false → removedAt L t x′ ≡ true → Passed e x′ (gap + 1)
+      pub passed-turn : removedAt L t e ≡ false → removedAt L t x′ ≡ true → Passed step undo L t e x′ (gap + 1)
       passed-turn stays r =
           record { met = rw (add-one gap) ahead-of; removed = below-more _ _ (p .removed) here; within = more (eq-or-lt-of-le (p .within)) }
         where
-          here : removedAt L t (ahead walk (suc gap) e) ≡ true
+          here : removedAt L t (ahead (walkBy step undo L) (suc gap) e) ≡ true
           here = ap (removedAt L t) ahead-of ∙ r
 
-          more : (suc gap ≡ length (contour walk e)) ⊎ (suc gap < length (contour walk e)) → gap + 1 < length (contour walk e)
+          more : (suc gap ≡ length (contour (walkBy step undo L) e)) ⊎ (suc gap < length (contour (walkBy step undo L) e)) → gap + 1 < length (contour (walkBy step undo L) e)
           more (inl q) =
-              absurd (true≢false (sym here ∙ ap (λ (n : ℕ). removedAt L t (ahead walk n e)) q ∙ ap (removedAt L t) (round-of .back) ∙ stays))
+              absurd (true≢false (sym here ∙ ap (λ (n : ℕ). removedAt L t (ahead (walkBy step undo L) n e)) q ∙ ap (removedAt L t) (round-of L law stick .back) ∙ stays))
           more (inr l) = omega arith
 
       -- it is not removed: it is the next kept stick
       module _ (r : removedAt L t x′ ≡ false) where
-        gap-of : Gap e gap
+        gap-of : Gap step undo L t e gap
         gap-of = record { removed = p .removed; ends = ap (removedAt L t) ahead-of ∙ r }
 
         passed-end : x′ ≡ keptFrom step L t (edgeCount (L .size)) e
-        passed-end = sym (gap-end (edgeCount (L .size)) gap e (omega (arith, passed-below x gap p)) gap-of ∙ ahead-of)
+        passed-end = sym (gap-end step undo L t (edgeCount (L .size)) gap e (omega (arith, passed-below)) gap-of ∙ ahead-of)
 
         passed-length : gap ≡ length (removedFrom step L t (edgeCount (L .size)) e)
         passed-length =
-            sym (ap length (gap-run (edgeCount (L .size)) gap e (omega (arith, passed-below x gap p)) gap-of) ∙ length-run walk gap (step e))
+            sym (ap length (gap-run step undo L t (edgeCount (L .size)) gap e (omega (arith, passed-below)) gap-of) ∙ length-run (walkBy step undo L) gap (step e))
 
         pub passed-last : (x′ ≡ keptFrom step L t (edgeCount (L .size)) e)
             × ((gap ≡ length (removedFrom step L t (edgeCount (L .size)) e)) × (isStick L x′ ≡ true))
         passed-last = (passed-end, (passed-length, passed-stick))
 
-    -- a gap that is found ends within a round
-    module _ (stays : removedAt L t e ≡ false) where
-      removed-ahead : ℕ → Bool
-      removed-ahead j = not (removedAt L t (ahead walk (suc j) e))
+module _ (step undo : Edge → Edge) (L : Layer) (t : List ℕ) (law : Laws (walkBy step undo L)) (e : Edge) (stick : isStick L e ≡ true) where
+  -- a gap that is found ends within a round
+  module _ (stays : removedAt L t e ≡ false) where
+    removed-ahead : ℕ → Bool
+    removed-ahead j = not (removedAt L t (ahead (walkBy step undo L) (suc j) e))
 
-      pub some-gap : (k : ℕ) × (k < length (contour walk e)) × Gap e k
-      unfolding removed-ahead
-      some-gap =
-          let n = length (contour walk e) in
-          let l = least-from removed-ahead 0 n in
-          let k = leastFrom removed-ahead 0 n in
-          let whole : suc (n - 1) ≡ n = omega (arith, round-of .some) in
-          let returned : removedAt L t (ahead walk (suc (n - 1)) e) ≡ false =
-          ap (λ (m : ℕ). removedAt L t (ahead walk m e)) whole ∙ ap (removedAt L t) (round-of .back) ∙ stays in
-          let below : k < n = elim (decLt k n) [
-            | yes y ↦ y
-            | no g ↦ absurd (true≢false (sym (ap not returned) ∙ l .before (n - 1) (omega arith) (omega (arith, round-of .some))))
-          ] in (
-            k,
-            below,
-            record { removed = λ j h. not-false _ (l .before j (omega arith) h); ends = not-true _ (l .here (omega arith)) },
-          )
+    pub some-gap : (k : ℕ) × (k < length (contour (walkBy step undo L) e)) × Gap step undo L t e k
+    unfolding removed-ahead
+    some-gap =
+        let n = length (contour (walkBy step undo L) e) in
+        let l = least-from removed-ahead 0 n in
+        let k = leastFrom removed-ahead 0 n in
+        let whole : suc (n - 1) ≡ n = omega (arith, round-of L law stick .some) in
+        let returned : removedAt L t (ahead (walkBy step undo L) (suc (n - 1)) e) ≡ false =
+        ap (λ (m : ℕ). removedAt L t (ahead (walkBy step undo L) m e)) whole ∙ ap (removedAt L t) (round-of L law stick .back) ∙ stays in
+        let below : k < n = elim (decLt k n) [
+          | yes y ↦ y
+          | no g ↦ absurd (true≢false (sym (ap not returned) ∙ l .before (n - 1) (omega arith) (omega (arith, round-of L law stick .some))))
+        ] in (
+          k,
+          below,
+          record { removed = λ j h. not-false _ (l .before j (omega arith) h); ends = not-true _ (l .here (omega arith)) },
+        )
 
-      end-is : keptFrom step L t (edgeCount (L .size)) e ≡ ahead walk (suc (some-gap .0)) e
-      end-is = let g = some-gap in gap-end (edgeCount (L .size)) (g .0) e (omega (arith, g .1, round-of .within)) (g .2)
+    end-is : keptFrom step L t (edgeCount (L .size)) e ≡ ahead (walkBy step undo L) (suc (some-gap .0)) e
+    end-is = let g = some-gap in gap-end step undo L t (edgeCount (L .size)) (g .0) e (omega (arith, g .1, round-of L law stick .within)) (g .2)
 
-      -- where the walk ends: at a stick of the contour that is not removed
-      pub end-stays : removedAt L t (keptFrom step L t (edgeCount (L .size)) e) ≡ false
-      end-stays = ap (removedAt L t) end-is ∙ some-gap .2 .ends
+    -- where the walk ends: at a stick of the contour that is not removed
+    pub end-stays : removedAt L t (keptFrom step L t (edgeCount (L .size)) e) ≡ false
+    end-stays = ap (removedAt L t) end-is ∙ some-gap .2 .ends
 
-      pub end-on : On walk e (keptFrom step L t (edgeCount (L .size)) e)
-      end-on = subst (On walk e) (sym end-is) (on-ahead walk law e (suc (some-gap .0)) stick)
+    pub end-on : OnContour (walkBy step undo L) e (keptFrom step L t (edgeCount (L .size)) e)
+    end-on = subst (OnContour (walkBy step undo L) e) (sym end-is) (on-ahead (walkBy step undo L) law e (suc (some-gap .0)) stick)
 
-      pub end-stick : isStick L (keptFrom step L t (edgeCount (L .size)) e) ≡ true
-      end-stick = on-one walk law e (keptFrom step L t (edgeCount (L .size)) e) stick end-on
+    pub end-stick : isStick L (keptFrom step L t (edgeCount (L .size)) e) ≡ true
+    end-stick = on-one (walkBy step undo L) law e (keptFrom step L t (edgeCount (L .size)) e) stick end-on

@@ -14,7 +14,7 @@ use Rattle.grid.specs.Questions.{Sound}
 use Rattle.grid.specs.declared.edge.Edge.{Edge}
 use Rattle.step.specs.Walk.{next, prev}
 use Rattle.step.proofs.Walks.{prev-stick, prev-next, next-prev}
-use Rattle.contour.specs.Walk.{On, ahead, Round}
+use Rattle.contour.specs.Walk.{OnContour, ahead, Round}
 use Rattle.contour.specs.Contours.{walkOf, contourOf}
 use Rattle.contour.proofs.Orbit.{round, ahead-next, ahead-one}
 use Rattle.contour.proofs.Members.{place, on-self, on-next, on-swap}
@@ -38,7 +38,7 @@ module _ (L : Layer) (t : List ℕ) (sound : Sound L) (vertices : Vertices L t) 
       ∙ back-ahead k y stick
 
   -- going back from a stick on the contour of a kept vertex y stops at one that is not removed
-  module _ (y x : Edge) (dy : Drawn L t y) (on : On (walkOf L) y x) where
+  module _ (y x : Edge) (dy : Drawn L t y) (on : OnContour (walkOf L) y x) where
     kept-before : (k : ℕ) × (k ≤ edgeCount (L .size)) × (removedAt L t (stepped (prev L) (suc k) x) ≡ false)
     unfolding ahead
     kept-before =
@@ -62,9 +62,9 @@ module _ (L : Layer) (t : List ℕ) (sound : Sound L) (vertices : Vertices L t) 
         ∙ kept-over (prev L) L t (edgeCount (L .size)) x r
 
   -- what a drawn edge owns is on the contour of its start
-  owns-on : {p u : Edge} → isStick L p ≡ true → Owns L t p u → On (walkOf L) p u
-  owns-on {p} h (begins e) = subst (On (walkOf L) p) e (on-self (walkOf L) (laws L sound) p h)
-  owns-on {p} h (goes-on {e = e} o n r) = subst (On (walkOf L) p) n (on-next (walkOf L) (laws L sound) p e h (owns-on h o))
+  owns-on : {p u : Edge} → isStick L p ≡ true → Owns L t p u → OnContour (walkOf L) p u
+  owns-on {p} h (begins e) = subst (OnContour (walkOf L) p) e (on-self (walkOf L) (laws L sound) p h)
+  owns-on {p} h (goes-on {e = e} o n r) = subst (OnContour (walkOf L) p) n (on-next (walkOf L) (laws L sound) p e h (owns-on h o))
 
   -- the kept vertex before the stick after one that it owns is its start
   previous-of : {p e : Edge} → Drawn L t p → Owns L t p e → previousKept L t (next L e) ≡ p
@@ -114,7 +114,7 @@ module _ (L : Layer) (t : List ℕ) (sound : Sound L) (vertices : Vertices L t) 
       let law = laws L sound in
       let e = prev L q in
       let se = prev-stick L sound q (d .stick) in
-      let forth : On (walkOf L) e q = subst (On (walkOf L) e) (next-prev L sound q (d .stick)) (on-next (walkOf L) law e e se (on-self (walkOf L) law e se)) in
+      let forth : OnContour (walkOf L) e q = subst (OnContour (walkOf L) e) (next-prev L sound q (d .stick)) (on-next (walkOf L) law e e se (on-self (walkOf L) law e se)) in
       let k = place (walkOf L) law q e (d .stick) (on-swap (walkOf L) law e q se forth) in
       let own = owner L t sound vertices (k .0) q d in
       let p : Edge = own .0 in

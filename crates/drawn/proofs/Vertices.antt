@@ -17,7 +17,7 @@ use Rattle.grid.proofs.Answers.{each-all}
 use Rattle.grid.proofs.Numbers.{number-below, edgeAt-number}
 use Rattle.step.specs.Walk.{next}
 use Rattle.step.proofs.Walks.{next-stick}
-use Rattle.contour.specs.Walk.{On, ahead, Round}
+use Rattle.contour.specs.Walk.{OnContour, ahead, Round}
 use Rattle.contour.specs.Contours.{walkOf, contourOf}
 use Rattle.contour.proofs.Orbit.{round}
 use Rattle.contour.proofs.Members.{place}
@@ -77,7 +77,7 @@ module _ (L : Layer) (t : List ℕ) (sound : Sound L) (vertices : Vertices L t) 
   stepped-ahead (suc k) e = stepped-ahead k (next L e)
 
   -- the walk from a stick of a contour with a kept vertex reaches a kept vertex, and stops there
-  module _ (e x : Edge) (stick : isStick L e ≡ true) (on : On (walkOf L) e x) (x-kept : keptAt L t x ≡ true) where
+  module _ (e x : Edge) (stick : isStick L e ≡ true) (on : OnContour (walkOf L) e x) (x-kept : keptAt L t x ≡ true) where
     kept-after : (k : ℕ) × (k ≤ edgeCount (L .size)) × (removedAt L t (stepped (next L) (suc k) e) ≡ false)
     unfolding ahead
     kept-after =

@@ -30,8 +30,8 @@ pub record Drawn (L : Layer) (t : List ℕ) (p : Edge) : Type 0 where
   pub kept : keptAt L t p ≡ true
 
 -- u is one of the removed sticks between its ends
-abbrev pub Between : Layer → List ℕ → Edge → Edge → Type 0
-Between L t p u = 0 < occurrences (walkOf L) u (gapAfter L t p)
+abbrev pub BetweenEnds : Layer → List ℕ → Edge → Edge → Type 0
+BetweenEnds L t p u = 0 < occurrences (walkOf L) u (gapAfter L t p)
 
 -- the point z lies on the drawn edge that starts at p, its ends included
 abbrev pub OnDrawn : Layer → List ℕ → Edge → Point → Type 0

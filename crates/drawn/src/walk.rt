@@ -9,9 +9,9 @@ ghost use mathlib.Core.Path.{_≡_};
 ghost use mathlib.Core.Bool.{true, false};
 ghost use lib.ListN.{length};
 ghost use Rattle.grid.specs.Layer.{layerOf};
-ghost use Rattle.grid.specs.Edges.{isStick, edgeCount};
-ghost use Rattle.grid.specs.Questions.{Sound};
+ghost use Rattle.grid.specs.Edges.{isStick};
 ghost use Rattle.table.specs.Vertices.{removedAt};
+ghost use Rattle.table.specs.Lent.{LentAt};
 ghost use Rattle.drawn.specs.Neighbours.{gapAfter, gapBefore, nextKept, previousKept};
 
 // The other end of the drawn edge that starts or ends at a stick, and how many removed sticks lie between.
@@ -22,9 +22,7 @@ pub struct EdgeEnd {
 
 // The next kept stick after e. As e is not removed, the walk ends when it is back at e, if not before.
 pub fn kept_after(size: Size, bitmap: &[u8], table: &[u16], e: Edge) -> EdgeEnd
-    requires { ⌜ Sound (layerOf size (now bitmap)) ⌝ }
-    requires { ⌜ length (now table) ≡ edgeCount size ⌝ }
-    requires { ⌜ isStick (layerOf size (now bitmap)) e ≡ true ⌝ }
+    requires { ⌜ LentAt (layerOf size (now bitmap)) (now table) e ⌝ }
     requires { ⌜ removedAt (layerOf size (now bitmap)) (now table) e ≡ false ⌝ }
     ensures { λ r. ⌜ r .stick ≡ nextKept (layerOf size (now (bitmap .entry))) (now (table .entry)) e ⌝ }
     ensures { λ r. ⌜ r .gap ≡ length (gapAfter (layerOf size (now (bitmap .entry))) (now (table .entry)) e) ⌝ }
@@ -44,9 +42,7 @@ pub fn kept_after(size: Size, bitmap: &[u8], table: &[u16], e: Edge) -> EdgeEnd
 
 // The kept stick before e, by the walk back.
 pub fn kept_before(size: Size, bitmap: &[u8], table: &[u16], e: Edge) -> EdgeEnd
-    requires { ⌜ Sound (layerOf size (now bitmap)) ⌝ }
-    requires { ⌜ length (now table) ≡ edgeCount size ⌝ }
-    requires { ⌜ isStick (layerOf size (now bitmap)) e ≡ true ⌝ }
+    requires { ⌜ LentAt (layerOf size (now bitmap)) (now table) e ⌝ }
     requires { ⌜ removedAt (layerOf size (now bitmap)) (now table) e ≡ false ⌝ }
     ensures { λ r. ⌜ r .stick ≡ previousKept (layerOf size (now (bitmap .entry))) (now (table .entry)) e ⌝ }
     ensures { λ r. ⌜ r .gap ≡ length (gapBefore (layerOf size (now (bitmap .entry))) (now (table .entry)) e) ⌝ }

@@ -11,7 +11,7 @@ use Rattle.grid.specs.Layer.{Layer}
 use Rattle.grid.specs.Edges.{isStick}
 use Rattle.grid.specs.Questions.{Sound}
 use Rattle.grid.specs.declared.edge.Edge.{Edge}
-use Rattle.contour.specs.Walk.{first, occurrences, On}
+use Rattle.contour.specs.Walk.{first, occurrences, OnContour}
 use Rattle.contour.specs.Contours.{walkOf, contourOf}
 use Rattle.contour.proofs.Orbit.{round}
 use Rattle.contour.proofs.Members.{on-one}
@@ -40,7 +40,7 @@ contour-closed L t sound vertices held f h =
 
 module _ (L : Layer) (sound : Sound L) where
   -- what does not lie on a contour stands in it 0 times
-  never : (e f : Edge) → (On (walkOf L) f e → ⊥) → occurrences (walkOf L) e (contourOf L f) ≡ 0
+  never : (e f : Edge) → (OnContour (walkOf L) f e → ⊥) → occurrences (walkOf L) e (contourOf L f) ≡ 0
   never e f n = elim (eq-zero-or-pos (occurrences (walkOf L) e (contourOf L f))) [ inl z ↦ z | inr o ↦ absurd (n o) ]
 
   pub stick-on-one : (e : Edge) → isStick L e ≡ true → OnOneContour L e

@@ -14,7 +14,7 @@ use lib.ListN.{getD}
 use lib.Pow.{shr-shr, pow-mono}
 use Rattle.arith.proofs.Booleans.{both-sides}
 use Rattle.grid.specs.Layer.{Layer, stride, rowByte, bit, sample, follows}
-use Rattle.grid.specs.Edges.{isStick, Marks}
+use Rattle.grid.specs.Edges.{isStick, StickBits}
 use Rattle.grid.specs.Questions.{Whole, Sound, spareSet}
 use Rattle.grid.specs.declared.edge.Edge.{Edge}
 use Rattle.grid.proofs.Samples.{byte-below, last-byte}
@@ -175,7 +175,7 @@ module _ (L : Layer) (sound : Sound L) where
 
   module _ (at r : ℕ) (at-less : at < stride (L .size)) where
     pub marks-horizontal : r < L .size .height → (s : ℕ) → ((b : ℕ) → b < 8 → bit s b ≡ follows L (8 * at + b) r)
-        → Marks L false at r (bitXor (rowByte L at r) s)
+        → StickBits L false at r (bitXor (rowByte L at r) s)
     marks-horizontal hr s f = record {
       ones = λ b h.
           bit-xor (rowByte L at r) s b
@@ -183,7 +183,7 @@ module _ (L : Layer) (sound : Sound L) where
           ∙ horizontal-stick (8 * at + b) r (omega arith) hr;
     }
 
-    pub marks-vertical : r + 1 < L .size .height → Marks L true at r (bitXor (rowByte L at r) (rowByte L at (r + 1)))
+    pub marks-vertical : r + 1 < L .size .height → StickBits L true at r (bitXor (rowByte L at r) (rowByte L at (r + 1)))
     marks-vertical hr = record {
       ones = λ b h.
           bit-xor (rowByte L at r) (rowByte L at (r + 1)) b

@@ -16,16 +16,16 @@ use Rattle.grid.specs.declared.layer.Size.{Size}
 use Rattle.grid.specs.declared.edge.Edge.{Edge}
 
 -- what `inGrid` tests
-pub record Within (size : Size) (e : Edge) : Type 0 where
+pub record WithinGrid (size : Size) (e : Edge) : Type 0 where
   pub column-below : e .column < edgeColumns size (e .vertical)
   pub row-below : e .row < edgeRows size (e .vertical)
 
-pub within : (size : Size) (e : Edge) → inGrid size e ≡ true → Within size e
+pub within : (size : Size) (e : Edge) → inGrid size e ≡ true → WithinGrid size e
 within size e h =
     let both = and-split (ltb (e .column) (edgeColumns size (e .vertical))) (ltb (e .row) (edgeRows size (e .vertical))) h in
     record { column-below = ltb-true _ _ (both .0); row-below = ltb-true _ _ (both .1) }
 
-pub in-grid : (size : Size) (e : Edge) → Within size e → inGrid size e ≡ true
+pub in-grid : (size : Size) (e : Edge) → WithinGrid size e → inGrid size e ≡ true
 in-grid size e h = rw (lt-ltb _ _ (h .column-below), lt-ltb _ _ (h .row-below))
 
 module _ (size : Size) (sized : Sized size) where

@@ -14,7 +14,7 @@ use Rattle.arith.specs.Booleans.{asNumber}
 use Rattle.arith.specs.Ranges.{count}
 use Rattle.arith.proofs.Ranges.{count-add, count-same, count-none}
 use Rattle.grid.specs.Layer.{Layer, stride, rowByte, bit, sample, sampleIn, sampleAt}
-use Rattle.grid.specs.Edges.{edgeColumns, edgeRows, edgeCount, edgeIn, edgeAt, inGrid, isStick, stickIn, stickOf, stickAt, Marks}
+use Rattle.grid.specs.Edges.{edgeColumns, edgeRows, edgeCount, edgeIn, edgeAt, inGrid, isStick, stickIn, stickOf, stickAt, StickBits}
 use Rattle.grid.specs.Questions.{Sized, Sound}
 use Rattle.grid.specs.declared.edge.Edge.{Edge}
 use Rattle.grid.proofs.Masks.{sample-bit, sample-spare}
@@ -66,7 +66,7 @@ module _ (L : Layer) (sound : Sound L) where
       ∙ ap (λ (n : ℕ). count (sampleIn L r) (8 * at) + n)
       (count-same (λ b. sampleIn L r (8 * at + b)) (bit (rowByte L at r)) 8 (λ b h. sample-bit L at b r h))
 
-  pub sticks-byte : (v : Bool) (at r x : ℕ) → Marks L v at r x → count (stickIn L v r) (8 * (at + 1)) ≡ count (stickIn L v r) (8 * at) + count (bit x) 8
+  pub sticks-byte : (v : Bool) (at r x : ℕ) → StickBits L v at r x → count (stickIn L v r) (8 * (at + 1)) ≡ count (stickIn L v r) (8 * at) + count (bit x) 8
   sticks-byte v at r x marks =
       ap (count (stickIn L v r)) (eight-more at)
       ∙ count-add (stickIn L v r) (8 * at) 8

@@ -65,5 +65,5 @@ abbrev pub stickAt : Layer → ℕ → Bool
 stickAt L k = isStick L (edgeAt (L .size) k)
 
 -- x has a one for each stick among the eight edges of a row from column 8 × at on
-pub record Marks (L : Layer) (vertical : Bool) (at r x : ℕ) : Type 0 where
+pub record StickBits (L : Layer) (vertical : Bool) (at r x : ℕ) : Type 0 where
   pub ones : (b : ℕ) → b < 8 → bit x b ≡ stickIn L vertical r (8 * at + b)

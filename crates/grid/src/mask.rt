@@ -6,7 +6,7 @@ use super::layer::stride_of;
 ghost use mathlib.Core.Path.{_≡_};
 ghost use Prim.Native.Nat.{ℕ, _+_, _*_, _≤_, _<_};
 ghost use Rattle.grid.specs.Layer.{layerOf, stride, bit, follows};
-ghost use Rattle.grid.specs.Edges.{edgeRows, Marks};
+ghost use Rattle.grid.specs.Edges.{edgeRows, StickBits};
 ghost use Rattle.grid.specs.Questions.{Whole, Sound};
 
 // The byte of a row moved down by one sample: bit b is the sample after the one that bit b of the row's byte is.
@@ -28,7 +28,7 @@ pub fn stick_byte(size: Size, bitmap: &[u8], vertical: bool, at: usize, row: usi
     requires { ⌜ Sound (layerOf size (now bitmap)) ⌝ }
     requires { ⌜ at < stride size ⌝ }
     requires { ⌜ row < edgeRows size vertical ⌝ }
-    ensures { λ r. ⌜ Marks (layerOf size (now (bitmap .entry))) vertical at row r ⌝ }
+    ensures { λ r. ⌜ StickBits (layerOf size (now (bitmap .entry))) vertical at row r ⌝ }
 {
     let here = row_byte(size, bitmap, at, row);
     if vertical {

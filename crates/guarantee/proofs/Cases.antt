@@ -24,9 +24,9 @@ use Rattle.held.specs.Held.{heldContour, heldAnswer}
 use Rattle.trace.specs.Counts.{countsOf}
 use Rattle.trace.specs.Trace.{traceOf}
 use Rattle.smooth.specs.Call.{smoothOf}
-use Rattle.simplify.specs.Runs.{passes}
+use Rattle.run.specs.Runs.{passes}
 use Rattle.simplify.specs.Call.{simplifyOf}
-use Rattle.roll.specs.Edits.{edgeWithin}
+use Rattle.edit.specs.Edits.{edgeWithin}
 use Rattle.roll.specs.Roll.{rollOf}
 use Rattle.guarantee.specs.Cases.{Cases, single, traced, offsets, blank, bar, barTable, stick, vertexOn, innerSample}
 

@@ -7,7 +7,7 @@ use Rattle.held.specs.Questions as Held
 use Rattle.faithful.proofs.Faithful.{faithful}
 use Rattle.smooth.proofs.Held.{smooth-keeps}
 use Rattle.simplify.proofs.Held.{simplify-keeps}
-use Rattle.sheet.proofs.ReadTheorems.{read-opens, read-keeps}
+use Rattle.reading.proofs.Theorems.{read-opens, read-keeps}
 use Rattle.roll.proofs.Held.{roll-keeps}
 use Rattle.guarantee.specs.Calls.{Sheet, Call, trace, read, smooth, simplify, roll, after, afterAll, Opening, byTrace, bySheet, Accepted, opened, Guarantee}
 use Rattle.guarantee.proofs.TraceHeld.{trace-opens, trace-keeps}

@@ -24,5 +24,5 @@ module _ (L : Layer) (t : List ℕ) where
   trace-keeps accepted = by (firstNo (lengthQuestions L (length t))) refl
     where
       by : (a : Answer) → firstNo (lengthQuestions L (length t)) ≡ a → Accepted L (traceOf L t .table)
-      by Yes e = let sound = lengths-of L (length t) e .0 in rw e (all-kept-accepted L (tracedTable L) sound (traced-kept L sound))
+      by Yes e = let sound = lengths-of L t e .sound in rw e (all-kept-accepted L (tracedTable L) sound (traced-kept L sound))
       by (No q place) e = rw e accepted

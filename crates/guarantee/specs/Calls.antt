@@ -10,7 +10,7 @@ use Rattle.faithful.specs.Faithful.{Faithful}
 use Rattle.trace.specs.Trace.{traceOf}
 use Rattle.smooth.specs.Call.{smoothOf}
 use Rattle.simplify.specs.Call.{simplifyOf}
-use Rattle.sheet.specs.Reading.{readOf}
+use Rattle.reading.specs.Reading.{readOf}
 use Rattle.roll.specs.Roll.{rollOf}
 
 -- a list of bytes: each element is below 256

@@ -16,7 +16,7 @@ use Rattle.drawn.specs.Drawn.{vertex}
 use Rattle.trace.specs.Counts.{countsOf}
 use Rattle.trace.specs.Trace.{traceOf}
 use Rattle.smooth.specs.Call.{smoothOf}
-use Rattle.simplify.specs.Runs.{passes}
+use Rattle.run.specs.Runs.{passes}
 use Rattle.simplify.specs.Call.{simplifyOf}
 use Rattle.roll.specs.Roll.{rollOf}
 

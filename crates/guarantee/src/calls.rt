@@ -1,7 +1,7 @@
 // The five calls that write a table, each as one step of the guarantee's list: the table at exit is `after` of the table at entry, whatever the
 // call's answer is.
+use reading::SheetRead;
 use roll::Rolled;
-use sheet::SheetRead;
 use simplify::Simplified;
 use smooth::Smoothing;
 use trace::Traced;
@@ -20,7 +20,7 @@ pub fn call_trace(w: u16, h: u16, bitmap: &[u8], table: &mut [u16]) -> Traced
 pub fn call_read(w: u16, h: u16, bitmap: &[u8], table: &mut [u16], sheet: &[u8]) -> SheetRead
     ensures { λ _. ⌜ ((below : Bytes (now (sheet .entry))) × (now (table .exit) ≡ after (layerOf (sizeOf w h) (now (bitmap .entry))) (now (table .entry)) (read (sheetFrom (now (sheet .entry)) below)))) ⌝ }
 {
-    sheet::read_sheet(w, h, bitmap, table, sheet)
+    reading::read_sheet(w, h, bitmap, table, sheet)
 }
 
 // Smooth, with a pass limit.

@@ -1,10 +1,10 @@
 // The two calls that may open a list: the table at exit is `opened` of the table at entry, and an answer `Done` says that the opening was accepted.
-use sheet::SheetRead;
+use reading::SheetRead;
 use trace::Traced;
 ghost use mathlib.Core.Path.{_≡_};
 ghost use Rattle.grid.specs.Layer.{layerOf, sizeOf};
 ghost use Rattle.trace.specs.declared.tracing.Traced.the-variants as Traced;
-ghost use Rattle.sheet.specs.declared.read.SheetRead.the-variants as SheetRead;
+ghost use Rattle.reading.specs.declared.read.SheetRead.the-variants as SheetRead;
 ghost use Rattle.guarantee.specs.Calls.{Bytes, sheetFrom, byTrace, bySheet, Accepted, opened};
 
 // Opens by Trace.
@@ -20,5 +20,5 @@ pub fn open_by_sheet(w: u16, h: u16, bitmap: &[u8], table: &mut [u16], sheet: &[
     ensures { λ _. ⌜ ((below : Bytes (now (sheet .entry))) × (now (table .exit) ≡ opened (layerOf (sizeOf w h) (now (bitmap .entry))) (now (table .entry)) (bySheet (sheetFrom (now (sheet .entry)) below)))) ⌝ }
     ensures { λ r. ⌜ (r ≡ SheetRead.Done → (below : Bytes (now (sheet .entry))) × Accepted (layerOf (sizeOf w h) (now (bitmap .entry))) (now (table .entry)) (bySheet (sheetFrom (now (sheet .entry)) below))) ⌝ }
 {
-    sheet::read_sheet(w, h, bitmap, table, sheet)
+    reading::read_sheet(w, h, bitmap, table, sheet)
 }

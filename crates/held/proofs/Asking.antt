@@ -10,24 +10,27 @@ use Rattle.arith.specs.Booleans.{asNumber}
 use Rattle.arith.proofs.Booleans.{one-le}
 use Rattle.arith.specs.Lists.{each, among}
 use Rattle.grid.specs.Layer.{Layer}
-use Rattle.grid.specs.Edges.{isStick, edgeAt, edgeCount, kindStart}
+use Rattle.grid.specs.Edges.{isStick}
 use Rattle.grid.specs.Questions.{firstNo, Sound}
 use Rattle.grid.specs.declared.edge.Edge.{Edge}
 use Rattle.grid.specs.declared.question.Refusal.the-variants.{NotHeld}
 use Rattle.grid.specs.declared.question.Answer.the-variants.{Yes, No}
-use Rattle.grid.proofs.Numbers.{within, edges-small, edgeAt-within}
+use Rattle.grid.proofs.Numbers.{edges-small}
 use Rattle.grid.proofs.Answers.{append-all, append-yes, firstNo-yes}
 use Rattle.step.specs.Walk.{next}
 use Rattle.contour.specs.Walk.{rest, firstsFrom}
 use Rattle.contour.specs.Contours.{walkOf, contourOf, sameEdge}
-use Rattle.contour.specs.Sets.{FirstSet, nextIn}
+use Rattle.contour.specs.Sets.{FirstSet}
+use Rattle.contour.specs.Cursors.{left, Placed, Opened, Moved}
+use Rattle.contour.specs.declared.cursor.Cursor.{Cursor}
 use Rattle.contour.proofs.Orbit.{round}
 use Rattle.contour.proofs.Loop.{Due, start, due-one, due-next, rest-more, rest-last}
 use Rattle.contour.proofs.Sticks.{laws}
-use Rattle.contour.proofs.FirstSets.{Stop, stop-below, firsts-start, firsts-turn, firsts-end}
+use Rattle.contour.proofs.Cursors.{here-number, here-left, none-left}
 use Rattle.table.specs.Entries.{lengthQuestions, entriesAnswer}
 use Rattle.table.specs.Kept.{allKeptAnswer}
 use Rattle.table.specs.Vertices.{keptAt}
+use Rattle.table.specs.Lent.{Lent, LentAt}
 use Rattle.table.proofs.Lengths.{lengths-of}
 use Rattle.drawn.specs.Drawn.{drawnAmong, starts, edgeCrosses}
 use Rattle.held.specs.Held.{heldContour, heldAnswer, firstUnheld}
@@ -68,11 +71,12 @@ and-true : (a : Bool) → a ≡ (a && true)
 and-true true = refl
 and-true false = refl
 
-module _ (L : Layer) (sound : Sound L) (t : List ℕ) (f : Edge) where
-  pub counted-start : isStick L f ≡ true → Counted L t f f 0
-  counted-start stick = record { due = start (walkOf L) (laws L sound) f stick; in-all = omega arith; still = refl }
+module _ {L : Layer} {t : List ℕ} {f : Edge} where
+  pub counted-start : LentAt L t f → Counted L t f f 0
+  counted-start given =
+      record { due = start (walkOf L) (laws L (given .sound)) f (given .stick); in-all = omega arith; still = refl }
 
-  module _ (x : Edge) (kept : ℕ) (c : Counted L t f x kept) where
+  module _ (sound : Sound L) {x : Edge} {kept : ℕ} (c : Counted L t f x kept) where
     pub counted-stick : isStick L x ≡ true
     counted-stick = due-one (walkOf L) (laws L sound) f x (c .due)
 
@@ -95,7 +99,7 @@ module _ (L : Layer) (sound : Sound L) (t : List ℕ) (f : Edge) where
         and-false (leb 3 (among (keptAt L t) (contourOf L f)))
         ∙ ap (λ (b : Bool). leb 3 (among (keptAt L t) (contourOf L f)) && b) (sym all)
 
-    module _ (x′ : Edge) (kept′ : ℕ) (step : x′ ≡ next L x) (yes : Cleared L t x) (more : kept′ ≡ kept + asNumber (keptAt L t x)) where
+    module _ {x′ : Edge} {kept′ : ℕ} (step : x′ ≡ next L x) (yes : Cleared L t x) (more : kept′ ≡ kept + asNumber (keptAt L t x)) where
       -- the walk goes on
       pub counted-turn : sameEdge x′ f ≡ false → Counted L t f x′ kept′
       counted-turn s =
@@ -116,53 +120,49 @@ module _ (L : Layer) (sound : Sound L) (t : List ℕ) (f : Edge) where
           ap (leb 3) all ∙ and-true (leb 3 (among (keptAt L t) (contourOf L f)))
           ∙ ap (λ (b : Bool). leb 3 (among (keptAt L t) (contourOf L f)) && b) (sym held)
 
--- All contours, from the first stick with number n on
+-- All contours: the first that is not held, of those from the cursor on, is the first of all
 
-module _ (L : Layer) (sound : Sound L) (t s : List ℕ) (set : FirstSet L s) (n : ℕ) where
-  module _ (stop : Stop L n) (below : n < kindStart (L .size) true) where
-    here-first : (n′ : ℕ) → n′ ≡ nextIn s (n + 1) (kindStart (L .size) true)
-        → firstUnheld L t (firstsFrom (walkOf L) n) ≡ firstUnheld L t (edgeAt (L .size) n ∷ firstsFrom (walkOf L) n′)
-    here-first n′ e = ap (firstUnheld L t) (firsts-turn L sound s set n n′ stop below e)
+pub record Asked (L : Layer) (t : List ℕ) (c : Cursor) : Type 0 where
+  pub placed : Placed L c
+  pub still : firstUnheld L t (left L c) ≡ heldAnswer L t
 
-    pub ask-no : heldContour L t (edgeAt (L .size) n) ≡ false → No NotHeld n ≡ firstUnheld L t (firstsFrom (walkOf L) n)
-    ask-no h =
-        let num = edgeAt-within (L .size) (sound .whole .sized) n (stop-below L sound s set n stop below) .1 in
-        let n′ = nextIn s (n + 1) (kindStart (L .size) true) in
-        let first : No NotHeld n ≡ firstUnheld L t (edgeAt (L .size) n ∷ firstsFrom (walkOf L) n′) = rw h (ap (No NotHeld) (sym num)) in
-        first ∙ sym (here-first n′ refl)
-
-    pub ask-next : (n′ : ℕ) → n′ ≡ nextIn s (n + 1) (kindStart (L .size) true) → heldContour L t (edgeAt (L .size) n) ≡ true
-        → firstUnheld L t (firstsFrom (walkOf L) n′) ≡ firstUnheld L t (firstsFrom (walkOf L) n)
-    ask-next n′ e h =
-        let later : firstUnheld L t (firstsFrom (walkOf L) n′) ≡ firstUnheld L t (edgeAt (L .size) n ∷ firstsFrom (walkOf L) n′) = rw h in
-        later ∙ sym (here-first n′ e)
-
-  pub ask-start : n ≡ nextIn s 0 (kindStart (L .size) true) → firstUnheld L t (firstsFrom (walkOf L) n) ≡ heldAnswer L t
+module _ {L : Layer} {t : List ℕ} {c : Cursor} where
+  pub ask-start : Opened L c → Asked L t c
   unfolding heldAnswer
-  ask-start e = ap (firstUnheld L t) (firsts-start L sound s set n e)
+  ask-start o = record { placed = o .placed; still = ap (firstUnheld L t) (o .left) }
 
-  pub ask-end : kindStart (L .size) true ≤ n → Yes ≡ firstUnheld L t (firstsFrom (walkOf L) n)
-  ask-end l = sym (ap (firstUnheld L t) (firsts-end L sound s set n l))
+  pub ask-next : {c′ : Cursor} → Asked L t c → heldContour L t (c .stick) ≡ true → Moved L c c′ → Asked L t c′
+  ask-next {c′} a is-held m =
+      let later : firstUnheld L t (left L c′) ≡ firstUnheld L t (c .stick ∷ left L c′) = rw is-held in
+      record { placed = m .placed; still = later ∙ sym (ap (firstUnheld L t) (m .left)) ∙ a .still }
+
+  module _ {s : List ℕ} (set : FirstSet L s) (a : Asked L t c) where
+    pub ask-no : c .more ≡ true → heldContour L t (c .stick) ≡ false → No NotHeld (c .number) ≡ heldAnswer L t
+    ask-no more missed =
+        let later = firstsFrom (walkOf L) (c .number + 1) in
+        let first : No NotHeld (c .number) ≡ firstUnheld L t (c .stick ∷ later) = rw missed (ap (No NotHeld) (sym (here-number set (a .placed) more))) in
+        first ∙ sym (ap (firstUnheld L t) (here-left set (a .placed) more)) ∙ a .still
+
+    pub ask-end : c .more ≡ false → Yes ≡ heldAnswer L t
+    ask-end over = sym (ap (firstUnheld L t) (none-left set (a .placed) over)) ∙ a .still
 
 -- What a yes to questions 1 to 6 says, and to 1 to 7
 
-pub six-of : (L : Layer) (t : List ℕ) → firstNo (entryQuestions L t) ≡ Yes
-    → Sound L × (length t ≡ edgeCount (L .size)) × (entriesAnswer L t ≡ Yes)
+pub six-of : (L : Layer) (t : List ℕ) → firstNo (entryQuestions L t) ≡ Yes → Lent L t × (entriesAnswer L t ≡ Yes)
 six-of L t e =
     let both = append-all (lengthQuestions L (length t)) (entriesAnswer L t ∷ []) e in
-    let lengths = lengths-of L (length t) (both .0) in
-    (lengths .0, lengths .1, firstNo-yes (entriesAnswer L t) [] (both .1) .0)
+    (lengths-of L t (both .0), firstNo-yes (entriesAnswer L t) [] (both .1) .0)
 
 pub accepted-of : (L : Layer) (t : List ℕ) → firstNo (heldQuestions L t) ≡ Yes → Accepted L t
 accepted-of L t e =
     let both = append-all (entryQuestions L t) (heldAnswer L t ∷ []) e in
     let six = six-of L t (both .0) in
-    record { sound = six .0; exact = six .1; entries = six .2; held = firstNo-yes (heldAnswer L t) [] (both .1) .0 }
+    record { sound = six .0 .sound; exact = six .0 .exact; entries = six .1; held = firstNo-yes (heldAnswer L t) [] (both .1) .0 }
 
 -- and where 1 to 5 are answered yes for a table t, 1 to 7 are for each accepted one
 pub accepted-yes : (L : Layer) (t u : List ℕ) → firstNo (lengthQuestions L (length t)) ≡ Yes → Accepted L u → firstNo (heldQuestions L u) ≡ Yes
 accepted-yes L t u yes-5 accepted =
-    let same : length u ≡ length t = accepted .exact ∙ sym (lengths-of L (length t) yes-5 .1) in
+    let same : length u ≡ length t = accepted .exact ∙ sym (lengths-of L t yes-5 .exact) in
     let five : firstNo (lengthQuestions L (length u)) ≡ Yes = rw same yes-5 in
     let last : firstNo (entriesAnswer L u ∷ heldAnswer L u ∷ []) ≡ Yes = rw (accepted .entries, accepted .held) in
     sym (append-yes (lengthQuestions L (length u)) (entriesAnswer L u ∷ heldAnswer L u ∷ []) five) ∙ last

@@ -14,7 +14,7 @@ use Rattle.grid.specs.Edges.{isStick, edgeCount}
 use Rattle.grid.specs.Questions.{Sound}
 use Rattle.grid.specs.declared.edge.Edge.{Edge}
 use Rattle.grid.specs.declared.question.Answer.the-variants.{Yes}
-use Rattle.contour.specs.Walk.{first, On}
+use Rattle.contour.specs.Walk.{first, OnContour}
 use Rattle.contour.specs.Contours.{walkOf, contourOf, sameEdge}
 use Rattle.contour.proofs.Orbit.{unlike}
 use Rattle.contour.proofs.First.{first-one}
@@ -119,14 +119,14 @@ module _ (L : Layer) (sound : Sound L) (t : List ℕ) (exact : length t ≡ edge
         (λ e. differ q (only-previous p d e)) (held .crossed p d))
 
     -- each contour has a kept vertex left: on that of u the next one
-    some-left : (f : Edge) → isStick L f ≡ true → (x : Edge) × On (walkOf L) f x × (keptAt L (without L t u) x ≡ true)
+    some-left : (f : Edge) → isStick L f ≡ true → (x : Edge) × OnContour (walkOf L) f x × (keptAt L (without L t u) x ≡ true)
     some-left f stick =
         let k = held .some-kept f stick in
         let x : Edge = k .0 in
-        both-sides (sameEdge x u) {P = (x : Edge) × On (walkOf L) f x × (keptAt L (without L t u) x ≡ true)}
+        both-sides (sameEdge x u) {P = (x : Edge) × OnContour (walkOf L) f x × (keptAt L (without L t u) x ≡ true)}
         (λ s. (
           nextKept L t u,
-          keptFrom-on L t sound vertices f stick (edgeCount (L .size)) u (subst (On (walkOf L) f) (same-edge x u s) (k .1)),
+          keptFrom-on L t sound vertices f stick (edgeCount (L .size)) u (subst (OnContour (walkOf L) f) (same-edge x u s) (k .1)),
           left (nextKept L t u) (end-drawn L t sound vertices u drawn) next-other .kept,
         ))
         (λ s. (x, k .1, left x (record { stick = on-one (walkOf L) (laws L sound) f x stick (k .1); kept = k .2 }) (differ s) .kept))

@@ -17,7 +17,7 @@ use Rattle.grid.specs.declared.edge.Edge.{Edge}
 use Rattle.grid.specs.declared.question.Refusal.the-variants.{NotHeld}
 use Rattle.grid.specs.declared.question.Answer.the-variants.{Yes}
 use Rattle.grid.proofs.Answers.{no-not-yes}
-use Rattle.contour.specs.Walk.{first, occurrences, On}
+use Rattle.contour.specs.Walk.{first, occurrences, OnContour}
 use Rattle.contour.specs.Contours.{walkOf, contourOf, firstSticks, sameEdge}
 use Rattle.contour.proofs.Members.{on-swap, on-trans}
 use Rattle.contour.proofs.First.{first-one}
@@ -35,7 +35,7 @@ pub record HeldFacts (L : Layer) (t : List ℕ) : Type 0 where
   -- each contour has three kept vertices or more
   pub three : (f : Edge) → first (walkOf L) f ≡ true → 3 ≤ among (keptAt L t) (contourOf L f)
   -- each stick has a kept vertex on its contour
-  pub some-kept : (e : Edge) → isStick L e ≡ true → (x : Edge) × On (walkOf L) e x × (keptAt L t x ≡ true)
+  pub some-kept : (e : Edge) → isStick L e ≡ true → (x : Edge) × OnContour (walkOf L) e x × (keptAt L t x ≡ true)
 
 module _ (L : Layer) where
   -- a test of each element of a list holds of one that occurs in it
@@ -83,8 +83,8 @@ module _ (L : Layer) where
             and-split (leb 3 (among (keptAt L t) (contourOf L f))) (each (edgeCrosses L t) (starts (drawnOf L t f)))
             (held-at t (firstSticks L) yes-7 f (first-sticks-all L sound f h))
 
-        kept-on : (e : Edge) → isStick L e ≡ true → (f : Edge) → first (walkOf L) f ≡ true → On (walkOf L) f e
-            → (x : Edge) × On (walkOf L) e x × (keptAt L t x ≡ true)
+        kept-on : (e : Edge) → isStick L e ≡ true → (f : Edge) → first (walkOf L) f ≡ true → OnContour (walkOf L) f e
+            → (x : Edge) × OnContour (walkOf L) e x × (keptAt L t x ≡ true)
         kept-on e stick f h o =
             let law = laws L sound in
             let one = first-one (walkOf L) law f h in

@@ -14,7 +14,7 @@ use Rattle.grid.specs.Edges.{isStick, edgeCount}
 use Rattle.grid.specs.Questions.{firstNo, Sound}
 use Rattle.grid.specs.declared.edge.Edge.{Edge}
 use Rattle.grid.specs.declared.question.Answer.the-variants.{Yes}
-use Rattle.contour.specs.Walk.{first, occurrences, On}
+use Rattle.contour.specs.Walk.{first, occurrences, OnContour}
 use Rattle.contour.specs.Contours.{walkOf, contourOf, firstSticks}
 use Rattle.contour.proofs.First.{first-one}
 use Rattle.contour.proofs.Members.{on-self}
@@ -47,8 +47,8 @@ module _ (L : Layer) where
 
 module _ (L : Layer) (t : List ℕ) (sound : Sound L) (vertices : Vertices L t) where
   -- a contour with a kept vertex whose drawn edges cross is held
-  pub contour-held : (f : Edge) → isStick L f ≡ true → (x : Edge) → On (walkOf L) f x → keptAt L t x ≡ true
-      → ((p : Edge) → On (walkOf L) f p → Drawn L t p → edgeCrosses L t p ≡ true) → heldContour L t f ≡ true
+  pub contour-held : (f : Edge) → isStick L f ≡ true → (x : Edge) → OnContour (walkOf L) f x → keptAt L t x ≡ true
+      → ((p : Edge) → OnContour (walkOf L) f p → Drawn L t p → edgeCrosses L t p ≡ true) → heldContour L t f ≡ true
   unfolding heldContour
   contour-held f stick x on kept over =
       let four = four-kept L t sound vertices f stick x on kept over in
@@ -56,7 +56,7 @@ module _ (L : Layer) (t : List ℕ) (sound : Sound L) (vertices : Vertices L t) 
       rw (le-leb 3 (among (keptAt L t) (contourOf L f)) (omega (arith, four)), all)
 
   pub layer-held : ((p : Edge) → Drawn L t p → edgeCrosses L t p ≡ true)
-      → ((f : Edge) → first (walkOf L) f ≡ true → (x : Edge) × On (walkOf L) f x × (keptAt L t x ≡ true)) → heldAnswer L t ≡ Yes
+      → ((f : Edge) → first (walkOf L) f ≡ true → (x : Edge) × OnContour (walkOf L) f x × (keptAt L t x ≡ true)) → heldAnswer L t ≡ Yes
   unfolding heldAnswer
   layer-held over some = held-all L t (firstSticks L) (λ f o.
       let h = first-sticks-only L sound f o in

@@ -25,7 +25,7 @@ use Rattle.chord.proofs.Regions.{crosses-is}
 use Rattle.table.specs.Vertices.{keptAt, removedAt, offsetAt}
 use Rattle.drawn.specs.Neighbours.{removedFrom, gapAfter, nextKept}
 use Rattle.drawn.proofs.Gaps.{not-both, gap-over, gap-here}
-use Rattle.drawn.specs.Drawn.{vertex, Drawn, Between}
+use Rattle.drawn.specs.Drawn.{vertex, Drawn, BetweenEnds}
 use Rattle.drawn.proofs.Vertices.{Vertices}
 use Rattle.drawn.proofs.Owners.{Owns, begins, goes-on, end-drawn, owned-passes, owned-crossed}
 use Rattle.drawn.proofs.Neighbours.{crosses-all}
@@ -54,10 +54,10 @@ module _ (L : Layer) (t : List ℕ) (sound : Sound L) (vertices : Vertices L t) 
           (λ s. later o′ (omega (arith, h′, ap asNumber s)))
       go later false r = let h′ = rw (gap-here (next L) L t (suc n) e r) at h in absurd (omega arith)
 
-  pub between-owned : (p u : Edge) → Between L t p u → OwnedRemoved L t p u
+  pub between-owned : (p u : Edge) → BetweenEnds L t p u → OwnedRemoved L t p u
   between-owned p u h = from-gap p (edgeCount (L .size)) p u (begins refl) h
 
-  pub owned-between : (p u : Edge) → Drawn L t p → OwnedRemoved L t p u → Between L t p u
+  pub owned-between : (p u : Edge) → Drawn L t p → OwnedRemoved L t p u → BetweenEnds L t p u
   owned-between p u d w =
       leb-true 1 (occurrences (walkOf L) u (gapAfter L t p))
       (owned-passes L t sound vertices p d (λ y. leb 1 (occurrences (walkOf L) y (gapAfter L t p)))

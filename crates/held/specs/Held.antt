@@ -17,7 +17,7 @@ use Rattle.chord.specs.Points.{Crosses}
 use Rattle.chord.specs.Crossing.{crosses}
 use Rattle.table.specs.Vertices.{keptAt}
 use Rattle.drawn.specs.Neighbours.{nextKept}
-use Rattle.drawn.specs.Drawn.{vertex, Drawn, Between, drawnOf, starts, edgeCrosses}
+use Rattle.drawn.specs.Drawn.{vertex, Drawn, BetweenEnds, drawnOf, starts, edgeCrosses}
 
 -- the contour that starts at f is held
 unfoldable pub heldContour : Layer → List ℕ → Edge → Bool
@@ -37,4 +37,4 @@ heldAnswer L t = firstUnheld L t (firstSticks L)
 -- over points. Question 7, which computes, asks exactly this (proofs/Meaning.antt).
 pub record HeldLayer (L : Layer) (t : List ℕ) : Type 0 where
   pub three : (f : Edge) → first (walkOf L) f ≡ true → 3 ≤ among (keptAt L t) (contourOf L f)
-  pub crossed : (p u : Edge) → Drawn L t p → Between L t p u → Crosses (vertex L t p) (vertex L t (nextKept L t p)) u
+  pub crossed : (p u : Edge) → Drawn L t p → BetweenEnds L t p u → Crosses (vertex L t p) (vertex L t (nextKept L t p)) u

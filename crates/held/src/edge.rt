@@ -6,18 +6,14 @@ use grid::Edge;
 use grid::Size;
 ghost use mathlib.Core.Path.{_≡_};
 ghost use mathlib.Core.Bool.{true};
-ghost use lib.ListN.{length};
 ghost use Rattle.grid.specs.Layer.{layerOf};
-ghost use Rattle.grid.specs.Edges.{isStick, edgeCount};
-ghost use Rattle.grid.specs.Questions.{Sound};
 ghost use Rattle.table.specs.Vertices.{keptAt};
+ghost use Rattle.table.specs.Lent.{LentAt};
 ghost use Rattle.drawn.specs.Drawn.{edgeCrosses};
 
 // Whether the drawn edge that starts at the kept vertex of stick e crosses every removed stick up to its end.
 pub fn held_at(size: Size, bitmap: &[u8], table: &[u16], e: Edge) -> bool
-    requires { ⌜ Sound (layerOf size (now bitmap)) ⌝ }
-    requires { ⌜ length (now table) ≡ edgeCount size ⌝ }
-    requires { ⌜ isStick (layerOf size (now bitmap)) e ≡ true ⌝ }
+    requires { ⌜ LentAt (layerOf size (now bitmap)) (now table) e ⌝ }
     requires { ⌜ keptAt (layerOf size (now bitmap)) (now table) e ≡ true ⌝ }
     ensures { λ r. ⌜ r ≡ edgeCrosses (layerOf size (now (bitmap .entry))) (now (table .entry)) e ⌝ }
 {

@@ -2,39 +2,36 @@
 use super::walk::held_contour;
 use contour::EdgeSet;
 use contour::WORDS;
+use contour::first_contour;
 use contour::first_sticks;
-use contour::next_first;
+use contour::next_contour;
 use grid::Answer;
 use grid::Refusal;
 use grid::Size;
-use grid::edge_at;
 ghost use mathlib.Core.Path.{_≡_};
 ghost use mathlib.Core.List.{[], _∷_};
-ghost use lib.ListN.{length};
 ghost use Rattle.grid.specs.Layer.{layerOf};
-ghost use Rattle.grid.specs.Edges.{edgeCount};
-ghost use Rattle.grid.specs.Questions.{firstNo, Sound};
+ghost use Rattle.grid.specs.Questions.{firstNo};
 ghost use Rattle.grid.specs.declared.question.Answer.the-variants.{Yes};
 ghost use Rattle.contour.specs.Sets.{Empty, FirstSet};
 ghost use Rattle.table.specs.Entries.{entriesAnswer};
 ghost use Rattle.table.specs.Kept.{allKeptAnswer};
+ghost use Rattle.table.specs.Lent.{Lent};
 ghost use Rattle.held.specs.Held.{heldAnswer};
 ghost use Rattle.held.specs.Questions.{entryQuestions, heldQuestions, keptQuestions};
 
 // Question 7, from the set of first sticks.
 fn ask_contours(size: Size, bitmap: &[u8], table: &[u16], set: &EdgeSet) -> Answer
-    requires { ⌜ Sound (layerOf size (now bitmap)) ⌝ }
-    requires { ⌜ length (now table) ≡ edgeCount size ⌝ }
+    requires { ⌜ Lent (layerOf size (now bitmap)) (now table) ⌝ }
     requires { ⌜ FirstSet (layerOf size (now bitmap)) (now set) ⌝ }
     ensures { λ r. ⌜ r ≡ heldAnswer (layerOf size (now (bitmap .entry))) (now (table .entry)) ⌝ }
 {
-    let end = grid::kind_start(size, true);
-    let mut n = next_first(set, 0, end);
-    while n < end {
-        if !held_contour(size, bitmap, table, edge_at(size, n)) {
-            return Answer::No(Refusal::NotHeld, n);
+    let mut at = first_contour(size, bitmap, set);
+    while at.more {
+        if !held_contour(size, bitmap, table, at.stick) {
+            return Answer::No(Refusal::NotHeld, at.number);
         }
-        n = next_first(set, n + 1, end);
+        at = next_contour(size, bitmap, set, at);
     }
     Answer::Yes
 }
@@ -42,8 +39,7 @@ fn ask_contours(size: Size, bitmap: &[u8], table: &[u16], set: &EdgeSet) -> Answ
 // Questions 7 and 15, of a layer that passed 1 to 6. Where nothing is removed every drawn edge is a single link, so the layer is held: the
 // walk for question 7 is made only if 15 is answered no.
 fn ask_kept(size: Size, bitmap: &[u8], table: &[u16], set: &EdgeSet) -> Answer
-    requires { ⌜ Sound (layerOf size (now bitmap)) ⌝ }
-    requires { ⌜ length (now table) ≡ edgeCount size ⌝ }
+    requires { ⌜ Lent (layerOf size (now bitmap)) (now table) ⌝ }
     requires { ⌜ entriesAnswer (layerOf size (now bitmap)) (now table) ≡ Yes ⌝ }
     requires { ⌜ FirstSet (layerOf size (now bitmap)) (now set) ⌝ }
     ensures { λ r. ⌜ r ≡ firstNo (heldAnswer (layerOf size (now (bitmap .entry))) (now (table .entry)) ∷ allKeptAnswer size (now (table .entry)) ∷ []) ⌝ }

@@ -7,18 +7,13 @@ use step::next_stick;
 use table::entry_at;
 use table::is_kept;
 ghost use mathlib.Core.Path.{_≡_};
-ghost use mathlib.Core.Bool.{true};
-ghost use lib.ListN.{length};
 ghost use Rattle.grid.specs.Layer.{layerOf};
-ghost use Rattle.grid.specs.Edges.{isStick, edgeCount};
-ghost use Rattle.grid.specs.Questions.{Sound};
+ghost use Rattle.table.specs.Lent.{LentAt};
 ghost use Rattle.held.specs.Held.{heldContour};
 
 // Whether the contour that starts at `first` is held. The last kept vertex answers for the edge that leads back to the first one.
 pub fn held_contour(size: Size, bitmap: &[u8], table: &[u16], first: Edge) -> bool
-    requires { ⌜ Sound (layerOf size (now bitmap)) ⌝ }
-    requires { ⌜ length (now table) ≡ edgeCount size ⌝ }
-    requires { ⌜ isStick (layerOf size (now bitmap)) first ≡ true ⌝ }
+    requires { ⌜ LentAt (layerOf size (now bitmap)) (now table) first ⌝ }
     ensures { λ r. ⌜ r ≡ heldContour (layerOf size (now (bitmap .entry))) (now (table .entry)) first ⌝ }
 {
     let mut e = first;

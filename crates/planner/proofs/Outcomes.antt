@@ -19,17 +19,18 @@ use Rattle.grid.specs.declared.question.Answer.{Answer}
 use Rattle.grid.specs.declared.question.Answer.the-variants.{Yes, No}
 use Rattle.grid.proofs.Answers.{first-only, append-no, append-yes}
 use Rattle.grid.proofs.Numbers.{edges-small}
-use Rattle.contour.specs.Contours.{firstSticks}
-use Rattle.contour.specs.Sets.{places, has, FirstSet, sizeOf}
+use Rattle.contour.specs.Contours.{contourCount}
+use Rattle.contour.specs.Sets.{setBits, has, FirstSet, memberCount}
 use Rattle.contour.proofs.FirstSets.{set-count}
 use Rattle.held.specs.Questions.{heldQuestions, Accepted}
 use Rattle.planner.specs.Items.{itemsOf, byteOf, bytesOf, floatsOf}
 use Rattle.planner.specs.Plan.{outcome, roomAnswer, answered, planOf, Promised}
-use Rattle.planner.specs.Writing.{Buffers, buffersOf, atStart, writeItem, keptEntry, Room}
+use Rattle.planner.specs.Writing.{Buffers, buffersOf, atStart, writeItem, keptEntry, Room, listOrder, listedItems, acceptedOf}
 use Rattle.planner.specs.declared.planning.Planned.{Planned}
 use Rattle.planner.specs.declared.planning.Planned.the-variants.{Done, Refused}
 use Rattle.planner.proofs.Writing.{fold-start}
-use Rattle.planner.proofs.Lengths.{items-all, floats-all}
+use Rattle.planner.proofs.Listing.{order-any}
+use Rattle.planner.proofs.Orders.{bytes-all, floats-all}
 
 and-short : (a b : Bool) → b ≡ false → (a && b) ≡ false
 and-short true b e = e
@@ -38,11 +39,11 @@ and-short false b e = refl
 -- By an answer
 
 module _ (L : Layer) (t : List ℕ) (order : List Edge) (items : List ℕ) (points : List Float) where
-  pub outcome-no : {a : Answer} {q : Refusal} {p : ℕ} → a ≡ No q p → outcome (Refused q p) items points ≡ answered a L t order items points
+  outcome-no : {a : Answer} {q : Refusal} {p : ℕ} → a ≡ No q p → outcome (Refused q p) items points ≡ answered a L t order items points
   unfolding answered
   outcome-no e = ap (λ (a : Answer). answered a L t order items points) (sym e)
 
-  pub outcome-yes : {a : Answer} → a ≡ Yes → (b : Buffers) → b ≡ foldl writeItem (buffersOf items points atStart) (itemsOf L t order)
+  outcome-yes : {a : Answer} → a ≡ Yes → (b : Buffers) → b ≡ foldl writeItem (buffersOf items points atStart) (itemsOf L t order)
       → outcome (Done (b .at .items) (b .at .floats)) (b .items) (b .points) ≡ answered a L t order items points
   unfolding answered
   outcome-yes e b w =
@@ -51,59 +52,90 @@ module _ (L : Layer) (t : List ℕ) (order : List Edge) (items : List ℕ) (poin
       ∙ ap (λ (a : Answer). answered a L t order items points) (sym e)
 
   -- questions 1 to 7, then 14
-  pub plan-yes : firstNo (heldQuestions L t) ≡ Yes
+  plan-yes : firstNo (heldQuestions L t) ≡ Yes
       → answered (roomAnswer L t order items points) L t order items points ≡ planOf L t order items points
   plan-yes e =
       ap (λ (a : Answer). answered a L t order items points)
       (first-only (roomAnswer L t order items points) ∙ append-yes (heldQuestions L t) (roomAnswer L t order items points ∷ []) e)
 
-  pub plan-no : {q : Refusal} {p : ℕ} → firstNo (heldQuestions L t) ≡ No q p
+  plan-no : {q : Refusal} {p : ℕ} → firstNo (heldQuestions L t) ≡ No q p
       → outcome (Refused q p) items points ≡ planOf L t order items points
   plan-no e = outcome-no (sym (append-no (heldQuestions L t) (roomAnswer L t order items points ∷ []) e))
 
--- the code's order is one
-pub promised : (L : Layer) (t items : List ℕ) (points : List Float) (r : Planned) (items′ : List ℕ) (points′ : List Float)
-    → outcome r items′ points′ ≡ planOf L t (firstSticks L) items points → Promised L t items points r items′ points′
-promised L t items points r items′ points′ e = record { order = firstSticks L; any = record { once = λ y. refl }; is = e }
+-- the code's order is one that is allowed
+module _ {L : Layer} {t items : List ℕ} {points : List Float} where
+  pub promised-accepted : {r : Planned} {items′ : List ℕ} {points′ : List Float} → firstNo (heldQuestions L t) ≡ Yes
+      → outcome r items′ points′ ≡ acceptedOf L t items points → Promised L t items points r items′ points′
+  promised-accepted e is = record { order = listOrder L; any = order-any L; is = is ∙ plan-yes L t (listOrder L) items points e }
+
+  pub promised-refused : {q : Refusal} {p : ℕ} → firstNo (heldQuestions L t) ≡ No q p → Promised L t items points (Refused q p) items points
+  promised-refused e = record { order = listOrder L; any = order-any L; is = plan-no L t (listOrder L) items points e }
 
 -- Question 14, by the number of kept vertices and of contours
 
-module _ (L : Layer) (t s items : List ℕ) (points : List Float) (accepted : Accepted L t) (set : FirstSet L s) where
-  module _ (kept many : ℕ) (k : kept ≡ count (keptEntry t) (length t)) (m : many ≡ sizeOf s) where
-    pub counts-fit : kept + many ≤ 3142656
-    counts-fit =
-        omega (
-          arith,
-          count-le (keptEntry t) (length t),
-          accepted .exact,
-          edges-small (L .size) (accepted .sound .whole .sized),
-          count-le (has s) places,
-        )
+pub record Tallies (L : Layer) (t : List ℕ) (kept many : ℕ) : Type 0 where
+  pub accepted : Accepted L t
+  pub kept-is : kept ≡ count (keptEntry t) (length t)
+  pub many-is : many ≡ contourCount L
+  pub few : many ≤ setBits
 
-    byte-count : length (bytesOf (itemsOf L t (firstSticks L))) ≡ kept + many
-    byte-count = omega (arith, items-all L t accepted, set-count L (accepted .sound) s set)
+pub tallied : {L : Layer} {t s : List ℕ} {kept many : ℕ} → Accepted L t → FirstSet L s
+    → kept ≡ count (keptEntry t) (length t) → many ≡ memberCount s → Tallies L t kept many
+tallied {L} {s = s} accepted set k m =
+    record {
+      accepted = accepted;
+      kept-is = k;
+      many-is = m ∙ set-count L (set .sound) s set;
+      few = omega (arith, count-le (has s) setBits);
+    }
 
-    float-count : length (floatsOf (itemsOf L t (firstSticks L))) ≡ 2 * kept
-    float-count = omega (arith, floats-all L t accepted)
+module _ {L : Layer} {t : List ℕ} {kept many : ℕ} (c : Tallies L t kept many) where
+  pub tallies-fit : kept + many ≤ 3142656
+  tallies-fit =
+      omega (
+        arith,
+        c .kept-is,
+        c .few,
+        count-le (keptEntry t) (length t),
+        c .accepted .exact,
+        edges-small (L .size) (c .accepted .sound .whole .sized),
+      )
 
-    pub short-items : length items < kept + many → roomAnswer L t (firstSticks L) items points ≡ No ShortOutput 0
+  byte-count : length (bytesOf (listedItems L t)) ≡ kept + many
+  byte-count = omega (arith, bytes-all (c .accepted) (order-any L), c .kept-is, c .many-is)
+
+  float-count : length (floatsOf (listedItems L t)) ≡ 2 * kept
+  float-count = omega (arith, floats-all (c .accepted) (order-any L), c .kept-is)
+
+  module _ (items : List ℕ) (points : List Float) where
+    short-items : length items < kept + many → roomAnswer L t (listOrder L) items points ≡ No ShortOutput 0
     unfolding roomAnswer
     short-items h = rw (byte-count, lt-leb (kept + many) (length items) h)
 
-    pub short-points : length points < 2 * kept → roomAnswer L t (firstSticks L) items points ≡ No ShortOutput 0
+    short-points : length points < 2 * kept → roomAnswer L t (listOrder L) items points ≡ No ShortOutput 0
     unfolding roomAnswer
     short-points h =
         ap (ask ShortOutput)
-        (and-short (leb (length (bytesOf (itemsOf L t (firstSticks L)))) (length items)) _
+        (and-short (leb (length (bytesOf (listedItems L t))) (length items)) _
         (ap (λ (n : ℕ). leb n (length points)) float-count ∙ lt-leb (2 * kept) (length points) h))
 
+    pub refused-items : length items < kept + many → outcome (Refused ShortOutput 0) items points ≡ acceptedOf L t items points
+    refused-items h = outcome-no L t (listOrder L) items points (short-items h)
+
+    pub refused-points : length points < 2 * kept → outcome (Refused ShortOutput 0) items points ≡ acceptedOf L t items points
+    refused-points h = outcome-no L t (listOrder L) items points (short-points h)
+
     module _ (i : kept + many ≤ length items) (p : 2 * kept ≤ length points) where
-      pub room-yes : roomAnswer L t (firstSticks L) items points ≡ Yes
+      room-yes : roomAnswer L t (listOrder L) items points ≡ Yes
       unfolding roomAnswer
       room-yes = rw (byte-count, float-count, le-leb (kept + many) (length items) i, le-leb (2 * kept) (length points) p)
 
-      pub room-of : Room (buffersOf items points atStart) (itemsOf L t (firstSticks L))
-      room-of = record {
-        bytes = omega (arith, byte-count, length-map (itemsOf L t (firstSticks L)) byteOf);
+      pub list-fits : Room (buffersOf items points atStart) (listedItems L t)
+      list-fits = record {
+        bytes = omega (arith, byte-count, length-map (listedItems L t) byteOf);
         floats = omega (arith, float-count);
       }
+
+      pub list-done : {b : Buffers} → b ≡ foldl writeItem (buffersOf items points atStart) (listedItems L t)
+          → outcome (Done (b .at .items) (b .at .floats)) (b .items) (b .points) ≡ acceptedOf L t items points
+      list-done {b} w = outcome-yes L t (listOrder L) items points room-yes b w

@@ -11,14 +11,14 @@ use lib.Seq.{sets, length-sets}
 use Rattle.planner.specs.Items.{byteOf, floatsIn, bytesOf, floatsOf}
 use Rattle.planner.specs.Writing.{Buffers, buffersOf, atStart, writeItem, Room}
 use Rattle.planner.specs.declared.item.Item.{Item}
-use Rattle.planner.specs.declared.item.Reached.{Reached}
+use Rattle.planner.specs.declared.item.Written.{Written}
 
 pub room-floats : (b : Buffers) (item : Item) → Room b (item ∷ []) → b .at .floats + length (floatsIn item) ≤ length (b .points)
 unfolding flatten
 room-floats b item room = omega (arith, room .floats, length-append (floatsIn item) [])
 
 -- what the outputs are after an item of a known kind, at the places that come then
-pub written : (items : List ℕ) (points : List Float) (at : Reached) {item known : Item} → item ≡ known
+pub written : (items : List ℕ) (points : List Float) (at : Written) {item known : Item} → item ≡ known
     → {points′ : List Float} → points′ ≡ sets points (at .floats) (floatsIn known)
     → {f : ℕ} → f ≡ at .floats + length (floatsIn known)
     → buffersOf (set items (at .items) (byteOf known)) points′ (record { items = at .items + 1; floats = f })

@@ -23,7 +23,7 @@ pub enum Item {
 }
 
 // How many items and floats have been written.
-pub struct Reached {
+pub struct Written {
     pub items: usize,
     pub floats: usize,
 }
@@ -68,7 +68,7 @@ fn put_point(points: &mut [f64], at: usize, x: f64, y: f64)
 }
 
 // Writes an item out: one byte, and the coordinates of its point if it has one.
-pub fn put_item(items: &mut [u8], points: &mut [f64], at: Reached, item: Item) -> Reached
+pub fn put_item(items: &mut [u8], points: &mut [f64], at: Written, item: Item) -> Written
     requires { ⌜ Room (buffersOf (now items) (now points) at) (item ∷ []) ⌝ }
     ensures { λ r. ⌜ buffersOf (now (items .exit)) (now (points .exit)) r ≡ writeItem (buffersOf (now (items .entry)) (now (points .entry)) at) item ⌝ }
 {
@@ -78,7 +78,7 @@ pub fn put_item(items: &mut [u8], points: &mut [f64], at: Reached, item: Item) -
         Item::Move(x, y) => {
             items[i] = 0x4D;
             put_point(points, f, x, y);
-            Reached {
+            Written {
                 items: i + 1,
                 floats: f + 2,
             }
@@ -86,14 +86,14 @@ pub fn put_item(items: &mut [u8], points: &mut [f64], at: Reached, item: Item) -
         Item::Line(x, y) => {
             items[i] = 0x6C;
             put_point(points, f, x, y);
-            Reached {
+            Written {
                 items: i + 1,
                 floats: f + 2,
             }
         }
         Item::Close => {
             items[i] = 0x5A;
-            Reached {
+            Written {
                 items: i + 1,
                 floats: f,
             }

@@ -1,14 +1,14 @@
 // The public call: questions 1 to 7 and 14, and the items of all contours.
-use super::item::Reached;
+use super::item::Written;
 use super::walk::write_contour;
 use contour::EdgeSet;
 use contour::WORDS;
 use contour::contour_count;
-use contour::next_first;
+use contour::first_contour;
+use contour::next_contour;
 use grid::Answer;
 use grid::Refusal;
 use grid::Size;
-use grid::edge_at;
 use grid::kind_start;
 use table::entry_of;
 use table::is_kept;
@@ -17,12 +17,11 @@ ghost use mathlib.Core.List.{foldl};
 ghost use lib.ListN.{length};
 ghost use Rattle.arith.specs.Ranges.{count};
 ghost use Rattle.grid.specs.Layer.{layerOf, sizeOf};
-ghost use Rattle.grid.specs.Edges.{edgeCount};
-ghost use Rattle.grid.specs.Questions.{Sound};
 ghost use Rattle.contour.specs.Sets.{FirstSet};
+ghost use Rattle.table.specs.Lent.{Lent};
 ghost use Rattle.held.specs.Questions.{Accepted};
 ghost use Rattle.planner.specs.Plan.{outcome, Promised};
-ghost use Rattle.planner.specs.Writing.{keptEntry, buffersOf, atStart, writeItem, Room, ascending, acceptedOf};
+ghost use Rattle.planner.specs.Writing.{keptEntry, buffersOf, atStart, writeItem, Room, listedItems, acceptedOf};
 
 // The call's answer: how many items and floats were written, or refused with the question and its place.
 pub enum Planned {
@@ -45,7 +44,7 @@ fn count_kept(table: &[u16]) -> usize
     kept
 }
 
-// Writes the items of all contours, in ascending order of their first sticks.
+// Writes the items of all contours, in the cursor's order, which is ascending by first stick.
 fn write_contours(
     size: Size,
     bitmap: &[u8],
@@ -53,24 +52,22 @@ fn write_contours(
     set: &EdgeSet,
     items: &mut [u8],
     points: &mut [f64],
-) -> Reached
-    requires { ⌜ Sound (layerOf size (now bitmap)) ⌝ }
-    requires { ⌜ length (now table) ≡ edgeCount size ⌝ }
+) -> Written
+    requires { ⌜ Lent (layerOf size (now bitmap)) (now table) ⌝ }
     requires { ⌜ FirstSet (layerOf size (now bitmap)) (now set) ⌝ }
-    requires { ⌜ Room (buffersOf (now items) (now points) atStart) (ascending (layerOf size (now bitmap)) (now table)) ⌝ }
-    ensures { λ r. ⌜ buffersOf (now (items .exit)) (now (points .exit)) r ≡ foldl writeItem (buffersOf (now (items .entry)) (now (points .entry)) atStart) (ascending (layerOf size (now (bitmap .entry))) (now (table .entry))) ⌝ }
+    requires { ⌜ Room (buffersOf (now items) (now points) atStart) (listedItems (layerOf size (now bitmap)) (now table)) ⌝ }
+    ensures { λ r. ⌜ buffersOf (now (items .exit)) (now (points .exit)) r ≡ foldl writeItem (buffersOf (now (items .entry)) (now (points .entry)) atStart) (listedItems (layerOf size (now (bitmap .entry))) (now (table .entry))) ⌝ }
 {
-    let end = kind_start(size, true);
-    let mut at = Reached {
+    let mut written = Written {
         items: 0,
         floats: 0,
     };
-    let mut n = next_first(set, 0, end);
-    while n < end {
-        at = write_contour(size, bitmap, table, items, points, at, edge_at(size, n));
-        n = next_first(set, n + 1, end);
+    let mut at = first_contour(size, bitmap, set);
+    while at.more {
+        written = write_contour(size, bitmap, table, items, points, written, at.stick);
+        at = next_contour(size, bitmap, set, at);
     }
-    at
+    written
 }
 
 // Question 14, and the list, of a layer that passed 1 to 7.
@@ -93,10 +90,10 @@ fn plan_accepted(
     if points.len() < 2 * kept {
         return Planned::Refused(Refusal::ShortOutput, 0);
     }
-    let at = write_contours(size, bitmap, table, set, items, points);
+    let written = write_contours(size, bitmap, table, set, items, points);
     Planned::Done {
-        items: at.items,
-        floats: at.floats,
+        items: written.items,
+        floats: written.floats,
     }
 }
 

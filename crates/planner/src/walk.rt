@@ -1,6 +1,6 @@
 // The items of one contour.
 use super::item::Item;
-use super::item::Reached;
+use super::item::Written;
 use super::item::item_to;
 use super::item::point_of;
 use super::item::put_item;
@@ -12,23 +12,20 @@ use table::entry_at;
 use table::is_kept;
 use table::offset_in;
 ghost use mathlib.Core.Path.{_≡_};
-ghost use mathlib.Core.Bool.{true};
 ghost use mathlib.Core.List.{foldl};
-ghost use lib.ListN.{length, getD};
+ghost use lib.ListN.{getD};
 ghost use Rattle.grid.specs.Layer.{layerOf};
-ghost use Rattle.grid.specs.Edges.{isStick, inGrid, number, edgeCount};
-ghost use Rattle.grid.specs.Questions.{Sized, Sound};
+ghost use Rattle.grid.specs.Edges.{number};
 ghost use Rattle.chord.specs.Points.{position};
 ghost use Rattle.table.specs.Entries.{entryOf};
 ghost use Rattle.table.specs.Vertices.{offsetIn};
+ghost use Rattle.table.specs.Lent.{LentAt, HasEntry};
 ghost use Rattle.planner.specs.Items.{pointAt, itemTo, contourItems};
 ghost use Rattle.planner.specs.Writing.{buffersOf, writeItem, Room};
 
 // The item that leads to the vertex of a stick.
 fn item_at(size: Size, table: &[u16], e: Edge, due: bool) -> Item
-    requires { ⌜ Sized size ⌝ }
-    requires { ⌜ length (now table) ≡ edgeCount size ⌝ }
-    requires { ⌜ inGrid size e ≡ true ⌝ }
+    requires { ⌜ HasEntry size (now table) e ⌝ }
     ensures { λ r. ⌜ r ≡ itemTo due (pointAt (position e (offsetIn (entryOf (getD (now (table .entry)) (number size e) 0))))) ⌝ }
 {
     item_to(due, point_of(e, offset_in(entry_at(size, table, e))))
@@ -41,12 +38,10 @@ pub fn write_contour(
     table: &[u16],
     items: &mut [u8],
     points: &mut [f64],
-    start: Reached,
+    start: Written,
     first: Edge,
-) -> Reached
-    requires { ⌜ Sound (layerOf size (now bitmap)) ⌝ }
-    requires { ⌜ length (now table) ≡ edgeCount size ⌝ }
-    requires { ⌜ isStick (layerOf size (now bitmap)) first ≡ true ⌝ }
+) -> Written
+    requires { ⌜ LentAt (layerOf size (now bitmap)) (now table) first ⌝ }
     requires { ⌜ Room (buffersOf (now items) (now points) start) (contourItems (layerOf size (now bitmap)) (now table) first) ⌝ }
     ensures { λ r. ⌜ buffersOf (now (items .exit)) (now (points .exit)) r ≡ foldl writeItem (buffersOf (now (items .entry)) (now (points .entry)) start) (contourItems (layerOf size (now (bitmap .entry))) (now (table .entry)) first) ⌝ }
 {

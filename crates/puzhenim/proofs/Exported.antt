@@ -10,57 +10,43 @@ use Rattle.arith.proofs.Booleans.{both-sides}
 use Rattle.grid.specs.Layer.{Layer}
 use Rattle.held.specs.Questions as Held
 use Rattle.faithful.proofs.Faithful.{faithful}
-use Rattle.trace.specs.Trace.{traceOf}
-use Rattle.smooth.specs.Call.{smoothOf}
-use Rattle.simplify.specs.Call.{simplifyOf}
-use Rattle.sheet.specs.Reading.{readOf}
-use Rattle.roll.specs.Roll.{rollOf}
 use Rattle.guarantee.specs.Calls.{Call, trace, read, smooth, simplify, roll, Opening, byTrace, bySheet}
 use Rattle.guarantee.proofs.Guarantee.{opening-held, call-held}
-use Rattle.puzhenim.specs.Face.{Result, face, traceResult, readResult, smoothResult, simplifyResult, rollResult}
+use Rattle.report.specs.Results.{Result}
+use Rattle.puzhenim.specs.Face.{face}
 use Rattle.puzhenim.specs.Exported.{faceOf, Made, tableAfter, opens, ExportedGuarantee}
 
--- what holds of the buffer as found and of that of the result holds of the buffer at exit
-either : (P : List ℕ → Type 0) (figures t : List ℕ) (r : Result (List ℕ)) → P t → P (r .buffers) → P (face figures t r .buffers)
-unfolding face
-either P figures t r found left = both-sides (ltb (length figures) 4) (λ e. rw e found) (λ e. rw e left)
+module _ (L : Layer) (figures t : List ℕ) (r : Result (List ℕ)) where
+  -- the table at exit is the one found, or that of the result
+  left-held : Held.Accepted L t → Held.Accepted L (r .buffers) → Held.Accepted L (face figures t r .buffers)
+  unfolding face
+  left-held found left = both-sides (ltb (length figures) 4) (λ e. rw e found) (λ e. rw e left)
 
--- a face that returns 0 is that of a call that is done
-done-number : (figures t : List ℕ) (r : Result (List ℕ)) → face figures t r .number ≡ 0 → r .report .number ≡ 0
-unfolding face
-done-number figures t r done = both-sides (ltb (length figures) 4) (λ e. absurd (omega (arith, rw e at done))) (λ e. rw e at done)
-
-done-buffer : (P : List ℕ → Type 0) (figures t : List ℕ) (r : Result (List ℕ)) → face figures t r .number ≡ 0 → P (r .buffers)
-    → P (face figures t r .buffers)
-unfolding face
-done-buffer P figures t r done left = both-sides (ltb (length figures) 4) (λ e. absurd (omega (arith, rw e at done))) (λ e. rw e left)
+  -- a face that returns 0 is that of a call that is done
+  done-held : face figures t r .number ≡ 0 → (r .report .number ≡ 0 → Held.Accepted L (r .buffers))
+      → Held.Accepted L (face figures t r .buffers)
+  unfolding face
+  done-held done left =
+      both-sides (ltb (length figures) 4) (λ e. absurd (omega (arith, rw e at done))) (λ e. rw e (left (rw e at done)))
 
 module _ (L : Layer) where
-  opened-held : (t : List ℕ) (opening : Opening) (figures : List ℕ) → faceOf L t (opens opening) figures .number ≡ 0
+  opening-leaves : (t : List ℕ) (opening : Opening) (figures : List ℕ) → faceOf L t (opens opening) figures .number ≡ 0
       → Held.Accepted L (faceOf L t (opens opening) figures .buffers)
-  opened-held t byTrace figures done =
-      let r = traceResult (traceOf L t) in
-      done-buffer (Held.Accepted L) figures t r done (opening-held L t byTrace (done-number figures t r done))
-  opened-held t (bySheet sheet) figures done =
-      let r = readResult (readOf L t (sheet .bytes)) in
-      done-buffer (Held.Accepted L) figures t r done (opening-held L t (bySheet sheet) (done-number figures t r done))
+  opening-leaves t byTrace figures done = done-held L figures t _ done (opening-held L t byTrace)
+  opening-leaves t (bySheet sheet) figures done = done-held L figures t _ done (opening-held L t (bySheet sheet))
 
-  left-held : (t : List ℕ) → Held.Accepted L t → (call : Call) (figures : List ℕ) → Held.Accepted L (faceOf L t call figures .buffers)
-  left-held t held trace figures = either (Held.Accepted L) figures t (traceResult (traceOf L t)) held (call-held L t held trace)
-  left-held t held (read sheet) figures =
-      either (Held.Accepted L) figures t (readResult (readOf L t (sheet .bytes))) held (call-held L t held (read sheet))
-  left-held t held (smooth limit) figures =
-      either (Held.Accepted L) figures t (smoothResult (smoothOf L limit t)) held (call-held L t held (smooth limit))
-  left-held t held (simplify tolerance) figures =
-      either (Held.Accepted L) figures t (simplifyResult (simplifyOf L tolerance t)) held (call-held L t held (simplify tolerance))
-  left-held t held (roll commands tolerance) figures =
-      either (Held.Accepted L) figures t (rollResult (rollOf L tolerance commands t)) held (call-held L t held (roll commands tolerance))
+  call-leaves : (t : List ℕ) → Held.Accepted L t → (call : Call) (figures : List ℕ) → Held.Accepted L (faceOf L t call figures .buffers)
+  call-leaves t held trace figures = left-held L figures t _ held (call-held L t held trace)
+  call-leaves t held (read sheet) figures = left-held L figures t _ held (call-held L t held (read sheet))
+  call-leaves t held (smooth limit) figures = left-held L figures t _ held (call-held L t held (smooth limit))
+  call-leaves t held (simplify tolerance) figures = left-held L figures t _ held (call-held L t held (simplify tolerance))
+  call-leaves t held (roll commands tolerance) figures = left-held L figures t _ held (call-held L t held (roll commands tolerance))
 
   all-held : (calls : List Made) (t : List ℕ) → Held.Accepted L t → Held.Accepted L (foldl (tableAfter L) t calls)
   all-held [] t held = held
-  all-held (made ∷ calls) t held = all-held calls (tableAfter L t made) (left-held t held (made .call) (made .figures))
+  all-held (made ∷ calls) t held = all-held calls (tableAfter L t made) (call-leaves t held (made .call) (made .figures))
 
 pub exported-guarantee : ExportedGuarantee
 exported-guarantee L t opening figures done calls =
     let first = faceOf L t (opens opening) figures .buffers in
-    faithful L (foldl (tableAfter L) first calls) (all-held L calls first (opened-held L t opening figures done))
+    faithful L (foldl (tableAfter L) first calls) (all-held L calls first (opening-leaves L t opening figures done))

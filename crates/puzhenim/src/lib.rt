@@ -1,17 +1,5 @@
 // The exported library: a C function for each call. It returns the number of the refusal, 0 if the call is done, and writes four figures: the
 // place, then the call's own in their order, 0 for the rest. A slice is a pointer and a length in elements. include/puzhenim.h declares them.
-mod report;
-
-use report::counted_report;
-use report::planned_report;
-use report::put_report;
-use report::read_report;
-use report::rolled_report;
-use report::sampled_report;
-use report::simplified_report;
-use report::smoothed_report;
-use report::traced_report;
-use report::written_report;
 ghost use mathlib.Core.Path.{_≡_};
 ghost use lib.ListN.{length};
 ghost use Rattle.grid.specs.Layer.{layerOf, sizeOf};
@@ -34,7 +22,7 @@ pub extern "C" fn pz_counts(
         return SHORT_OUTPUT;
     }
     let answer = trace::counts(w, h, bitmap, table);
-    put_report(figures, counted_report(answer))
+    report::put_report(figures, report::counted_report(answer))
 }
 
 #[no_mangle]
@@ -51,7 +39,7 @@ pub extern "C" fn pz_trace(
         return SHORT_OUTPUT;
     }
     let answer = trace::trace(w, h, bitmap, table);
-    put_report(figures, traced_report(answer))
+    report::put_report(figures, report::traced_report(answer))
 }
 
 #[no_mangle]
@@ -69,7 +57,7 @@ pub extern "C" fn pz_smooth(
         return SHORT_OUTPUT;
     }
     let answer = smooth::smooth(w, h, bitmap, table, limit);
-    put_report(figures, smoothed_report(answer))
+    report::put_report(figures, report::smoothed_report(answer))
 }
 
 #[no_mangle]
@@ -87,7 +75,7 @@ pub extern "C" fn pz_simplify(
         return SHORT_OUTPUT;
     }
     let answer = simplify::simplify(w, h, bitmap, table, t);
-    put_report(figures, simplified_report(answer))
+    report::put_report(figures, report::simplified_report(answer))
 }
 
 #[no_mangle]
@@ -106,7 +94,7 @@ pub extern "C" fn pz_roll(
         return SHORT_OUTPUT;
     }
     let answer = roll::roll(w, h, bitmap, table, roll, t);
-    put_report(figures, rolled_report(answer))
+    report::put_report(figures, report::rolled_report(answer))
 }
 
 #[no_mangle]
@@ -124,7 +112,7 @@ pub extern "C" fn pz_write_sheet(
         return SHORT_OUTPUT;
     }
     let answer = sheet::write_sheet(w, h, bitmap, table, sheet);
-    put_report(figures, written_report(answer))
+    report::put_report(figures, report::written_report(answer))
 }
 
 #[no_mangle]
@@ -141,8 +129,8 @@ pub extern "C" fn pz_read_sheet(
     if figures.len() < 4 {
         return SHORT_OUTPUT;
     }
-    let answer = sheet::read_sheet(w, h, bitmap, table, sheet);
-    put_report(figures, read_report(answer))
+    let answer = reading::read_sheet(w, h, bitmap, table, sheet);
+    report::put_report(figures, report::read_report(answer))
 }
 
 #[no_mangle]
@@ -161,7 +149,7 @@ pub extern "C" fn pz_plan(
         return SHORT_OUTPUT;
     }
     let answer = planner::plan(w, h, bitmap, table, items, points);
-    put_report(figures, planned_report(answer))
+    report::put_report(figures, report::planned_report(answer))
 }
 
 #[no_mangle]
@@ -179,5 +167,5 @@ pub extern "C" fn pz_sample(
         return SHORT_OUTPUT;
     }
     let sampled = view::sample_at(w, h, bitmap, column, row);
-    put_report(figures, sampled_report(sampled))
+    report::put_report(figures, report::sampled_report(sampled))
 }

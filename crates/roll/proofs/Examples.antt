@@ -18,7 +18,7 @@ use Rattle.drawn.specs.Neighbours.{removedFrom, keptFrom}
 use Rattle.drawn.specs.Drawn.{edgeCrosses}
 use Rattle.held.specs.Held.{heldContour, heldAnswer}
 use Rattle.roll.specs.Commands.{rollAnswer}
-use Rattle.roll.specs.Edits.{edgeWithin}
+use Rattle.edit.specs.Edits.{edgeWithin}
 use Rattle.roll.specs.Roll.{Outcome, rollOf}
 
 -- "W 3, H 3, inside (1,1)", with the four entries of its sticks, by number: 2, 3, 7 and 10

@@ -11,7 +11,8 @@ use lib.ListN.{length, getD, List·getD-eq-default}
 use Rattle.grid.specs.declared.question.Refusal.the-variants.{Malformed}
 use Rattle.grid.specs.declared.question.Answer.{Answer}
 use Rattle.grid.specs.declared.question.Answer.the-variants.{No}
-use Rattle.roll.specs.Commands.{Named, Command, slides, removes, ends, wrong, askAt, namedAt, commandAt, wellFormed, rollAnswer}
+use Rattle.edit.specs.Edits.{Named, askAt}
+use Rattle.roll.specs.Commands.{Command, slides, removes, ends, wrong, namedAt, commandAt, wellFormed, formedFrom, rollAnswer}
 
 module _ (r : List ℕ) (i : ℕ) where
   -- the command at i, by its byte
@@ -62,29 +63,24 @@ module _ (r : List ℕ) where
       step-same r i (commandAt r i) (wellFormed r n) (wellFormed r m)
       (fuel n m (i + 7) (omega arith) (omega arith)) (fuel n m (i + 6) (omega arith) (omega arith))
 
-  -- the answer of question 8 from a place on
-  unfoldable pub formedFrom : ℕ → Answer
-  unfolding wellFormed
-  formedFrom i = wellFormed r (length r + 1) i
-
-  pub formed-all : formedFrom 0 ≡ rollAnswer r
+  pub formed-all : formedFrom r 0 ≡ rollAnswer r
   unfolding formedFrom rollAnswer
   formed-all = refl
 
   module _ (i : ℕ) where
-    formed-step : formedFrom i ≡ step r i formedFrom (commandAt r i)
+    formed-step : formedFrom r i ≡ step r i (formedFrom r) (commandAt r i)
     unfolding formedFrom
     formed-step =
         fuel (length r + 1) (suc (length r + 1)) i (omega arith) (omega arith)
 
-    pub formed-slide : {s : Named} {o : ℕ} → commandAt r i ≡ slides s o → formedFrom (i + 7) ≡ formedFrom i
-    formed-slide e = sym (formed-step ∙ ap (step r i formedFrom) e)
+    pub formed-slide : {s : Named} {o : ℕ} → commandAt r i ≡ slides s o → formedFrom r (i + 7) ≡ formedFrom r i
+    formed-slide e = sym (formed-step ∙ ap (step r i (formedFrom r)) e)
 
-    pub formed-removal : {s : Named} → commandAt r i ≡ removes s → formedFrom (i + 6) ≡ formedFrom i
-    formed-removal e = sym (formed-step ∙ ap (step r i formedFrom) e)
+    pub formed-removal : {s : Named} → commandAt r i ≡ removes s → formedFrom r (i + 6) ≡ formedFrom r i
+    formed-removal e = sym (formed-step ∙ ap (step r i (formedFrom r)) e)
 
-    pub formed-end : commandAt r i ≡ ends → askAt (i + 1) Malformed (eqb (i + 1) (length r)) ≡ formedFrom i
-    formed-end e = sym (formed-step ∙ ap (step r i formedFrom) e)
+    pub formed-end : commandAt r i ≡ ends → askAt (i + 1) Malformed (eqb (i + 1) (length r)) ≡ formedFrom r i
+    formed-end e = sym (formed-step ∙ ap (step r i (formedFrom r)) e)
 
-    pub formed-wrong : commandAt r i ≡ wrong → No Malformed i ≡ formedFrom i
-    formed-wrong e = sym (formed-step ∙ ap (step r i formedFrom) e)
+    pub formed-wrong : commandAt r i ≡ wrong → No Malformed i ≡ formedFrom r i
+    formed-wrong e = sym (formed-step ∙ ap (step r i (formedFrom r)) e)

@@ -15,16 +15,15 @@ use Rattle.grid.specs.declared.question.Answer.the-variants.{Yes, No}
 use Rattle.grid.proofs.Answers.{no-not-yes}
 use Rattle.table.specs.Stores.{slid, without}
 use Rattle.held.specs.Questions.{Accepted}
-use Rattle.roll.specs.declared.rolling.Rolled.the-variants.{Done, Refused}
 use Rattle.roll.specs.declared.rolling.Step.{Step}
 use Rattle.roll.specs.declared.rolling.Step.the-variants.{On, End, Stop}
-use Rattle.roll.specs.Commands.{Named, Command, slides, removes, ends, wrong, commandAt, rollAnswer}
-use Rattle.roll.specs.Edits.{edgeNamed, slideAnswer, removalAnswer}
-use Rattle.roll.specs.Chords.{storedIf}
-use Rattle.roll.specs.Steps.{Stepped, stepped, stepOn, stepBy, slideStep, removalStep, stepOf}
-use Rattle.roll.specs.Roll.{Outcome, outcome, runFrom}
-use Rattle.roll.proofs.Forms.{formedFrom, formed-all, formed-slide, formed-removal, formed-wrong, at-slide-cut, at-removal-cut, at-none}
-use Rattle.roll.proofs.Asked.{slide-keeps, removal-keeps}
+use Rattle.roll.specs.Commands.{Command, slides, removes, ends, wrong, namedAt, commandAt, formedFrom}
+use Rattle.edit.specs.Edits.{Named, edgeNamed, slideAnswer, removalAnswer}
+use Rattle.edit.specs.Chords.{storedIf}
+use Rattle.roll.specs.Steps.{Stepped, stepped, stepOn, stepBy, slideStep, removalStep, stepOf, Runnable, Readable}
+use Rattle.roll.specs.Roll.{Outcome, runFrom}
+use Rattle.roll.proofs.Forms.{formed-slide, formed-removal, formed-wrong, at-slide, at-slide-cut, at-removal, at-removal-cut, at-end, at-none}
+use Rattle.edit.proofs.Asked.{slide-keeps, removal-keeps}
 
 -- A step from an answer and a store
 
@@ -33,22 +32,25 @@ step-by : (answer : Answer) (after : ℕ) (t t′ : List ℕ) {r : Step} {u : Li
 step-by Yes after t t′ e s = λ i. stepped (e i) (s i)
 step-by (No q place) after t t′ e s = λ i. stepped (e i) (s i)
 
-module _ (L : Layer) (tolerance i : ℕ) (t : List ℕ) where
-  pub slide-step : {r : Step} {u : List ℕ} {s′ : Named} (x : Answer) (s : Named) (o : ℕ) → s′ ≡ s → x ≡ slideAnswer L tolerance t i s′ o
-      → r ≡ stepOn x (i + 7) → u ≡ storedIf x t (slid L t (edgeNamed s′) o) → stepped r u ≡ slideStep L tolerance i t s o
-  unfolding slideStep
-  slide-step {r} {u} {s′} x s o same asked e stored =
-      step-by x (i + 7) t (slid L t (edgeNamed s′) o) e stored
-      ∙ ap (λ (x : Answer). stepBy x (i + 7) t (slid L t (edgeNamed s′) o)) asked
-      ∙ ap (λ (s : Named). stepBy (slideAnswer L tolerance t i s o) (i + 7) t (slid L t (edgeNamed s) o)) same
+-- of an edit that asks `f` and leaves `g`, on the stick s that the code read as s′
+step-made : (f : Named → Answer) (g : Named → List ℕ) (after : ℕ) (t : List ℕ) {r : Step} {u : List ℕ} {x : Answer} {s s′ : Named} → s′ ≡ s
+    → x ≡ f s′ → r ≡ stepOn x after → u ≡ storedIf x t (g s′) → stepped r u ≡ stepBy (f s) after t (g s)
+step-made f g after t {x = x} {s′ = s′} same asked e stored =
+    step-by x after t (g s′) e stored ∙ ap (λ (y : Answer). stepBy y after t (g s′)) asked
+    ∙ ap (λ (y : Named). stepBy (f y) after t (g y)) same
 
-  pub removal-step : {r : Step} {u : List ℕ} {s′ : Named} (x : Answer) (s : Named) → s′ ≡ s → x ≡ removalAnswer L tolerance t i s′
-      → r ≡ stepOn x (i + 6) → u ≡ storedIf x t (without L t (edgeNamed s′)) → stepped r u ≡ removalStep L tolerance i t s
+module _ (L : Layer) (tolerance i : ℕ) (t : List ℕ) {r : Step} {u : List ℕ} {x : Answer} {s s′ : Named} (same : s′ ≡ s) where
+  pub slide-step : (o : ℕ) → x ≡ slideAnswer L tolerance t i s′ o → r ≡ stepOn x (i + 7) → u ≡ storedIf x t (slid L t (edgeNamed s′) o)
+      → stepped r u ≡ slideStep L tolerance i t s o
+  unfolding slideStep
+  slide-step o asked e stored =
+      step-made (λ y. slideAnswer L tolerance t i y o) (λ y. slid L t (edgeNamed y) o) (i + 7) t same asked e stored
+
+  pub removal-step : x ≡ removalAnswer L tolerance t i s′ → r ≡ stepOn x (i + 6) → u ≡ storedIf x t (without L t (edgeNamed s′))
+      → stepped r u ≡ removalStep L tolerance i t s
   unfolding removalStep
-  removal-step {r} {u} {s′} x s same asked e stored =
-      step-by x (i + 6) t (without L t (edgeNamed s′)) e stored
-      ∙ ap (λ (x : Answer). stepBy x (i + 6) t (without L t (edgeNamed s′))) asked
-      ∙ ap (λ (s : Named). stepBy (removalAnswer L tolerance t i s) (i + 6) t (without L t (edgeNamed s))) same
+  removal-step asked e stored =
+      step-made (λ y. removalAnswer L tolerance t i y) (λ y. without L t (edgeNamed y)) (i + 6) t same asked e stored
 
 -- The command at a byte of a roll that passes question 8 from there on
 
@@ -59,10 +61,10 @@ module _ (r : List ℕ) (i : ℕ) (formed : formedFrom r i ≡ Yes) where
   pub formed-below : i < length r
   formed-below = elim (decLt i (length r)) [ yes h ↦ h | no h ↦ absurd (not-wrong (at-none r i (omega arith))) ]
 
-  pub slide-whole : getD r i 0 ≡ 0x53 → i + 7 ≤ length r
+  slide-whole : getD r i 0 ≡ 0x53 → i + 7 ≤ length r
   slide-whole b = elim (decLt (length r) (i + 7)) [ yes h ↦ absurd (not-wrong (at-slide-cut r i b h)) | no h ↦ omega arith ]
 
-  pub removal-whole : getD r i 0 ≡ 0x58 → i + 6 ≤ length r
+  removal-whole : getD r i 0 ≡ 0x58 → i + 6 ≤ length r
   removal-whole b = elim (decLt (length r) (i + 6)) [ yes h ↦ absurd (not-wrong (at-removal-cut r i b h)) | no h ↦ omega arith ]
 
 module _ (L : Layer) (tolerance : ℕ) (r : List ℕ) (i : ℕ) (t : List ℕ) where
@@ -78,15 +80,34 @@ module _ (L : Layer) (tolerance : ℕ) (r : List ℕ) (i : ℕ) (t : List ℕ) w
   unfolding stepOf
   step-is e = sym (ap by-command e)
 
+-- by its first byte
+
+module _ {L : Layer} {t r : List ℕ} {i : ℕ} (k : Runnable L t r i) where
+  pub slide-readable : getD r i 0 ≡ 0x53 → Readable L t r i 7
+  slide-readable b = record { accepted = k .accepted; whole = slide-whole r i (k .formed) b }
+
+  pub removal-readable : getD r i 0 ≡ 0x58 → Readable L t r i 6
+  removal-readable b = record { accepted = k .accepted; whole = removal-whole r i (k .formed) b }
+
+  module _ (tolerance : ℕ) where
+    pub slide-here : getD r i 0 ≡ 0x53 → slideStep L tolerance i t (namedAt r (i + 1)) (getD r (i + 6) 0) ≡ stepOf L tolerance r i t
+    slide-here b = step-is L tolerance r i t (at-slide r i b (slide-whole r i (k .formed) b))
+
+    pub removal-here : getD r i 0 ≡ 0x58 → removalStep L tolerance i t (namedAt r (i + 1)) ≡ stepOf L tolerance r i t
+    removal-here b = step-is L tolerance r i t (at-removal r i b (removal-whole r i (k .formed) b))
+
+    pub end-here : getD r i 0 ≡ 0x45 → stepped End t ≡ stepOf L tolerance r i t
+    end-here b = step-is L tolerance r i t (at-end r i b (formed-below r i (k .formed)))
+
 -- Fuel: as many commands as there are bytes left are enough
 
+abbrev pub refused : ℕ → List ℕ → Refusal → ℕ → Outcome
+refused done t q place = record { refusal = numberOf q; place = place; done = done; table = t }
+
+abbrev pub stopped : ℕ → List ℕ → Outcome
+stopped done t = record { refusal = 0; place = 0; done = done; table = t }
+
 module _ (L : Layer) (tolerance : ℕ) (r : List ℕ) where
-  abbrev pub refused : ℕ → List ℕ → Refusal → ℕ → Outcome
-  refused done t q place = record { refusal = numberOf q; place = place; done = done; table = t }
-
-  abbrev pub stopped : ℕ → List ℕ → Outcome
-  stopped done t = record { refusal = 0; place = 0; done = done; table = t }
-
   -- the outcome at a command, with `later` the outcome from a place on
   abbrev pub run-by : ℕ → ℕ → List ℕ → (ℕ → List ℕ → Outcome) → Command → Outcome
   run-by i done t later c = elim c [
@@ -160,10 +181,9 @@ module _ (L : Layer) (tolerance : ℕ) (r : List ℕ) where
 -- A step that goes on leaves the table accepted and the rest of the roll well formed
 
 -- what is known after such a step
-pub record WentOn (L : Layer) (r : List ℕ) (i j : ℕ) (t : List ℕ) : Type 0 where
-  pub accepted : Accepted L t
-  pub formed : formedFrom r j ≡ Yes
-  pub further : i < j
+record WentOn (L : Layer) (r : List ℕ) (i j : ℕ) (t : List ℕ) : Type 0 where
+  here : Runnable L t r j
+  further : i < j
 
 stop-not-on : {q : Refusal} {place j : ℕ} → Stop q place ≡ On j → ⊥
 stop-not-on s = let z : _≡_ {A = ℕ} 0 1 = cc in omega arith
@@ -177,66 +197,65 @@ module _ {j : ℕ} {t′ : List ℕ} where
   on-yes Yes after t u h = (refl, (let s : On after ≡ On j = ap (λ (x : Stepped). x .step) h in cc), ap (λ (x : Stepped). x .table) h)
   on-yes (No q place) after t u h = absurd (stop-not-on (ap (λ (x : Stepped). x .step) h))
 
-  pub step-on : (L : Layer) (tolerance : ℕ) (r : List ℕ) (i : ℕ) (t : List ℕ) → Accepted L t → formedFrom r i ≡ Yes
+  step-on : (L : Layer) (tolerance : ℕ) (r : List ℕ) (i : ℕ) (t : List ℕ) → Runnable L t r i
       → stepOf L tolerance r i t ≡ stepped (On j) t′ → WentOn L r i j t′
   unfolding slideStep removalStep
-  step-on L tolerance r i t accepted formed h = go (commandAt r i) refl
+  step-on L tolerance r i t k h = go (commandAt r i) refl
     where
       made : (answer : Answer) (after : ℕ) (u : List ℕ) → stepBy answer after t u ≡ stepped (On j) t′ → i < after
           → (answer ≡ Yes → Accepted L u) → formedFrom r after ≡ formedFrom r i → WentOn L r i j t′
       made answer after u s less keeps same =
           let b = on-yes answer after t u s in
           record {
-            accepted = subst (Accepted L) (b .2) (keeps (b .0));
-            formed = ap (formedFrom r) (sym (b .1)) ∙ same ∙ formed;
+            here = record {
+              accepted = subst (Accepted L) (b .2) (keeps (b .0));
+              formed = ap (formedFrom r) (sym (b .1)) ∙ same ∙ k .formed;
+            };
             further = omega (arith, b .1, less);
           }
 
       go : (c : Command) → commandAt r i ≡ c → WentOn L r i j t′
       go (slides s o) e =
           made (slideAnswer L tolerance t i s o) (i + 7) (slid L t (edgeNamed s) o) (step-is L tolerance r i t e ∙ h) (omega arith)
-          (slide-keeps L t accepted s tolerance i o) (formed-slide r i e)
+          (slide-keeps L tolerance t i s o (k .accepted)) (formed-slide r i e)
       go (removes s) e =
           made (removalAnswer L tolerance t i s) (i + 6) (without L t (edgeNamed s)) (step-is L tolerance r i t e ∙ h) (omega arith)
-          (removal-keeps L t accepted s tolerance i) (formed-removal r i e)
+          (removal-keeps L tolerance t i s (k .accepted)) (formed-removal r i e)
       go ends e = absurd (end-not-on (ap (λ (x : Stepped). x .step) (step-is L tolerance r i t e ∙ h)))
-      go wrong e = absurd (not-wrong r i formed e)
+      go wrong e = absurd (not-wrong r i (k .formed) e)
 
 -- A roll that is run: some commands are done, and the outcome from here on is that of the whole roll
 
-pub record Running (L : Layer) (tolerance : ℕ) (r : List ℕ) (t₀ t : List ℕ) (at done : ℕ) : Type 0 where
-  pub accepted : Accepted L t
-  pub formed : formedFrom r at ≡ Yes
+pub record Running (L : Layer) (tolerance : ℕ) (r t₀ t : List ℕ) (at done : ℕ) : Type 0 where
+  pub here : Runnable L t r at
   pub few : done ≤ at
   pub same : ranFrom L tolerance r at done t ≡ ranFrom L tolerance r 0 0 t₀
 
-module _ (L : Layer) (tolerance : ℕ) (r : List ℕ) (t₀ : List ℕ) where
-  pub running-start : Accepted L t₀ → rollAnswer r ≡ Yes → Running L tolerance r t₀ t₀ 0 0
-  running-start accepted passed = record { accepted = accepted; formed = formed-all r ∙ passed; few = omega arith; same = refl }
+pub running-start : {L : Layer} {t r : List ℕ} (tolerance : ℕ) → Runnable L t r 0 → Running L tolerance r t t 0 0
+running-start tolerance k = record { here = k; few = omega arith; same = refl }
 
-  module _ {t : List ℕ} {at done : ℕ} (running : Running L tolerance r t₀ t at done) (x : Step) (u : List ℕ)
-      (is : stepped x u ≡ stepOf L tolerance r at t) where
-    here : ran-after L tolerance r done (stepped x u) ≡ ranFrom L tolerance r 0 0 t₀
-    here =
-        ap (ran-after L tolerance r done) is ∙ sym (ran-step L tolerance r at done t (running .formed)) ∙ running .same
+module _ {L : Layer} {tolerance : ℕ} {r t₀ t : List ℕ} {at done : ℕ} (running : Running L tolerance r t₀ t at done) where
+  -- there are no more commands than bytes
+  pub running-few : done < length r
+  running-few = omega (arith, running .few, formed-below r at (running .here .formed))
 
-    pub running-end : x ≡ End → outcome (Done done) u ≡ ranFrom L tolerance r 0 0 t₀
-    running-end e = ap (λ (y : Step). ran-after L tolerance r done (stepped y u)) (sym e) ∙ here
-
-    pub running-stop : {q : Refusal} {place : ℕ} → x ≡ Stop q place → outcome (Refused q place done) u ≡ ranFrom L tolerance r 0 0 t₀
-    running-stop e = ap (λ (y : Step). ran-after L tolerance r done (stepped y u)) (sym e) ∙ here
+  -- the command here, with its step x and the table u after it
+  module _ {x : Step} {u : List ℕ} (is : stepped x u ≡ stepOf L tolerance r at t) where
+    pub running-by : {y : Step} → x ≡ y → ran-after L tolerance r done (stepped y u) ≡ ranFrom L tolerance r 0 0 t₀
+    running-by e =
+        ap (λ (y : Step). ran-after L tolerance r done (stepped y u)) (sym e) ∙ ap (ran-after L tolerance r done) is
+        ∙ sym (ran-step L tolerance r at done t (running .here .formed)) ∙ running .same
 
     module _ {j : ℕ} (e : x ≡ On j) where
       went : WentOn L r at j u
-      went = step-on L tolerance r at t (running .accepted) (running .formed) (sym is ∙ ap (λ (y : Step). stepped y u) e)
+      went = step-on L tolerance r at t (running .here) (sym is ∙ ap (λ (y : Step). stepped y u) e)
 
       pub running-further : (at < j) × (j < length r)
-      running-further = (went .further, formed-below r j (went .formed))
+      running-further = (went .further, formed-below r j (went .here .formed))
 
       pub running-on : Running L tolerance r t₀ u j (done + 1)
       running-on = record {
-        accepted = went .accepted;
-        formed = went .formed;
+        here = went .here;
         few = omega (arith, went .further, running .few);
-        same = ap (λ (y : Step). ran-after L tolerance r done (stepped y u)) (sym e) ∙ here;
+        same = running-by e;
       }

@@ -1,23 +1,14 @@
 -- The commands of an edit roll, and question 8: "S (hex 53) and a stick and an offset byte slides; X (hex 58) and a stick removes; E (hex
 -- 45) ends the roll. A stick is kind (1 byte), column, row (16 bits each, low byte first)."
-use mathlib.Core.Bool.{Bool, cond}
+use mathlib.Core.Bool.{cond}
 use mathlib.Core.List.{List}
 use Prim.Native.Nat.{ℕ, zero, suc, _+_, _*_}
 use lib.Dec.{eqb, leb}
 use lib.ListN.{length, getD}
-use Rattle.grid.specs.declared.question.Refusal.{Refusal}
 use Rattle.grid.specs.declared.question.Refusal.the-variants.{Malformed}
 use Rattle.grid.specs.declared.question.Answer.{Answer}
-use Rattle.grid.specs.declared.question.Answer.the-variants.{Yes, No}
-use Rattle.roll.specs.declared.command.Named as declared
-
--- a question whose place is a byte of the roll
-abbrev pub askAt : ℕ → Refusal → Bool → Answer
-askAt place q test = cond test Yes (No q place)
-
--- a stick as a command names it, by kind, column and row; it may lie outside the grid: the struct of src/command.rt
-abbrev pub Named : Type 0
-Named = declared.Named
+use Rattle.grid.specs.declared.question.Answer.the-variants.{No}
+use Rattle.edit.specs.Edits.{Named, askAt}
 
 pub data Command : Type 0 where
   slides : Named → ℕ → Command
@@ -65,3 +56,8 @@ wellFormed r (suc n) i = elim (commandAt r i) [
 unfoldable pub rollAnswer : List ℕ → Answer
 unfolding wellFormed
 rollAnswer r = wellFormed r (length r + 1) 0
+
+-- question 8 of the roll from byte i on
+unfoldable pub formedFrom : List ℕ → ℕ → Answer
+unfolding wellFormed
+formedFrom r i = wellFormed r (length r + 1) i

@@ -1,8 +1,4 @@
--- What the promise of Roll says (Commands, Edits, Roll), what an edit's questions say over points (Meaning), and what the contracts of its
--- parts cite besides (Chords, Steps).
+-- What the promise of Roll says (Commands, Roll), and one command as the code takes it (Steps).
 pub mod Commands
-pub mod Edits
-pub mod Meaning
 pub mod Roll
-pub mod Chords
 pub mod Steps

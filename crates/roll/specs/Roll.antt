@@ -10,7 +10,7 @@ use Rattle.held.specs.Questions.{heldQuestions}
 use Rattle.roll.specs.declared.rolling.Rolled.{Rolled}
 use Rattle.roll.specs.declared.rolling.Rolled.the-variants.{Done, Refused}
 use Rattle.roll.specs.Commands.{commandAt, rollAnswer, slides, removes, ends, wrong}
-use Rattle.roll.specs.Edits.{edgeNamed, slideAnswer, removalAnswer}
+use Rattle.edit.specs.Edits.{edgeNamed, slideAnswer, removalAnswer}
 
 -- the number of a refusal and its place, both 0 where the call is done; "the commands done, E not counted"; and the table at exit
 pub record Outcome : Type 0 where

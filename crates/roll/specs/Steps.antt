@@ -1,15 +1,19 @@
 -- One command of a roll as the code takes it: its result, and the table after it. Roll.antt has the commands one after the other.
+use mathlib.Core.Path.{_≡_}
 use mathlib.Core.List.{List}
-use Prim.Native.Nat.{ℕ, _+_}
+use Prim.Native.Nat.{ℕ, _+_, _≤_}
+use lib.ListN.{length}
 use Rattle.grid.specs.Layer.{Layer}
 use Rattle.grid.specs.Questions.{ifAllYes}
 use Rattle.grid.specs.declared.question.Refusal.the-variants.{Malformed}
 use Rattle.grid.specs.declared.question.Answer.{Answer}
+use Rattle.grid.specs.declared.question.Answer.the-variants.{Yes}
 use Rattle.table.specs.Stores.{slid, without}
+use Rattle.held.specs.Questions.{Accepted}
 use Rattle.roll.specs.declared.rolling.Step.{Step}
 use Rattle.roll.specs.declared.rolling.Step.the-variants.{On, End, Stop}
-use Rattle.roll.specs.Commands.{Named, commandAt, slides, removes, ends, wrong}
-use Rattle.roll.specs.Edits.{edgeNamed, slideAnswer, removalAnswer}
+use Rattle.roll.specs.Commands.{commandAt, formedFrom, slides, removes, ends, wrong}
+use Rattle.edit.specs.Edits.{Named, edgeNamed, slideAnswer, removalAnswer}
 
 pub record Stepped : Type 0 where
   pub step : Step
@@ -41,3 +45,13 @@ stepOf L tolerance r i t = elim (commandAt r i) [
   | ends ↦ stepped End t
   | wrong ↦ stepped (Stop Malformed i) t
 ]
+
+-- What a command is run on: a layer that passes questions 1 to 7, and a roll that is well formed from byte i on, or has n bytes from there
+
+pub record Runnable (L : Layer) (t r : List ℕ) (i : ℕ) : Type 0 where
+  pub accepted : Accepted L t
+  pub formed : formedFrom r i ≡ Yes
+
+pub record Readable (L : Layer) (t r : List ℕ) (i n : ℕ) : Type 0 where
+  pub accepted : Accepted L t
+  pub whole : i + n ≤ length r

@@ -1,4 +1,5 @@
 // The commands of an edit roll: question 8 over the whole roll, and a command taken apart.
+use edit::Named;
 use grid::Answer;
 use grid::Refusal;
 ghost use mathlib.Core.Path.{_≡_};
@@ -6,14 +7,8 @@ ghost use Prim.Native.Nat.{_+_, _≤_, _<_};
 ghost use lib.ListN.{length, getD};
 ghost use lib.Dec.{eqb};
 ghost use Rattle.grid.specs.declared.question.Refusal.the-variants.{Malformed};
-ghost use Rattle.roll.specs.Commands.{askAt, twoBytes, namedAt, rollAnswer};
-
-// A stick as a command names it; it may lie outside the grid.
-pub struct Named {
-    pub kind: u8,
-    pub column: usize,
-    pub row: usize,
-}
+ghost use Rattle.edit.specs.Edits.{askAt};
+ghost use Rattle.roll.specs.Commands.{twoBytes, namedAt, rollAnswer};
 
 fn widen(x: u8) -> usize
     ensures { λ r. ⌜ r ≡ x ⌝ }

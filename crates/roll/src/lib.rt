@@ -1,7 +1,5 @@
 // The public call Roll: an edit roll of one-byte commands, each of which slides or removes one vertex of a held layer.
 mod command;
-mod edit;
-mod redraw;
 mod rolling;
 
 pub use rolling::Rolled;

@@ -1,22 +1,21 @@
 // The public call Roll: questions 1 to 8, then the commands one after the other.
 use super::command::ask_roll;
 use super::command::named_at;
-use super::edit::remove;
-use super::edit::slide;
+use edit::remove;
+use edit::slide;
 use grid::Answer;
 use grid::Refusal;
 use grid::Size;
 ghost use mathlib.Core.Path.{_≡_};
 ghost use mathlib.Core.List.{[], _∷_, _++_};
-ghost use Prim.Native.Nat.{_+_, _≤_};
+ghost use Prim.Native.Nat.{_+_};
 ghost use lib.ListN.{length, getD};
 ghost use Rattle.grid.specs.Layer.{layerOf, sizeOf};
 ghost use Rattle.grid.specs.Questions.{firstNo};
-ghost use Rattle.grid.specs.declared.question.Answer.the-variants.{Yes};
-ghost use Rattle.held.specs.Questions.{heldQuestions, Accepted};
-ghost use Rattle.roll.specs.Commands.{namedAt, wellFormed, rollAnswer};
+ghost use Rattle.held.specs.Questions.{heldQuestions};
+ghost use Rattle.roll.specs.Commands.{namedAt, rollAnswer};
 ghost use Rattle.roll.specs.Roll.{outcome, runFrom, rollOf};
-ghost use Rattle.roll.specs.Steps.{stepped, stepOn, slideStep, removalStep, stepOf};
+ghost use Rattle.roll.specs.Steps.{stepped, stepOn, slideStep, removalStep, stepOf, Runnable, Readable};
 
 // Roll's answer: the commands done, or refused with the question, its place and the commands done before.
 pub enum Rolled {
@@ -45,8 +44,7 @@ fn step_after(answer: Answer, after: usize) -> Step
 }
 
 fn slide_at(size: Size, bitmap: &[u8], table: &mut [u16], roll: &[u8], at: usize, t: u8) -> Step
-    requires { ⌜ Accepted (layerOf size (now bitmap)) (now table) ⌝ }
-    requires { ⌜ at + 7 ≤ length (now roll) ⌝ }
+    requires { ⌜ Readable (layerOf size (now bitmap)) (now table) (now roll) at 7 ⌝ }
     ensures { λ r. ⌜ stepped r (now (table .exit)) ≡ slideStep (layerOf size (now (bitmap .entry))) t at (now (table .entry)) (namedAt (now (roll .entry)) (at + 1)) (getD (now (roll .entry)) (at + 6) 0) ⌝ }
 {
     let stick = named_at(roll, at + 1);
@@ -55,8 +53,7 @@ fn slide_at(size: Size, bitmap: &[u8], table: &mut [u16], roll: &[u8], at: usize
 }
 
 fn remove_at(size: Size, bitmap: &[u8], table: &mut [u16], roll: &[u8], at: usize, t: u8) -> Step
-    requires { ⌜ Accepted (layerOf size (now bitmap)) (now table) ⌝ }
-    requires { ⌜ at + 6 ≤ length (now roll) ⌝ }
+    requires { ⌜ Readable (layerOf size (now bitmap)) (now table) (now roll) at 6 ⌝ }
     ensures { λ r. ⌜ stepped r (now (table .exit)) ≡ removalStep (layerOf size (now (bitmap .entry))) t at (now (table .entry)) (namedAt (now (roll .entry)) (at + 1)) ⌝ }
 {
     let stick = named_at(roll, at + 1);
@@ -65,8 +62,7 @@ fn remove_at(size: Size, bitmap: &[u8], table: &mut [u16], roll: &[u8], at: usiz
 
 // The command at a byte. After question 8 it is one of the three.
 fn run_command(size: Size, bitmap: &[u8], table: &mut [u16], roll: &[u8], at: usize, t: u8) -> Step
-    requires { ⌜ Accepted (layerOf size (now bitmap)) (now table) ⌝ }
-    requires { ⌜ wellFormed (now roll) (length (now roll) + 1) at ≡ Yes ⌝ }
+    requires { ⌜ Runnable (layerOf size (now bitmap)) (now table) (now roll) at ⌝ }
     ensures { λ r. ⌜ stepped r (now (table .exit)) ≡ stepOf (layerOf size (now (bitmap .entry))) t (now (roll .entry)) at (now (table .entry)) ⌝ }
 {
     let byte = roll[at];
@@ -80,8 +76,7 @@ fn run_command(size: Size, bitmap: &[u8], table: &mut [u16], roll: &[u8], at: us
 
 // The commands of a roll that passed question 8, each on the table that those before it left.
 fn run(size: Size, bitmap: &[u8], table: &mut [u16], roll: &[u8], t: u8) -> Rolled
-    requires { ⌜ Accepted (layerOf size (now bitmap)) (now table) ⌝ }
-    requires { ⌜ rollAnswer (now roll) ≡ Yes ⌝ }
+    requires { ⌜ Runnable (layerOf size (now bitmap)) (now table) (now roll) 0 ⌝ }
     ensures { λ r. ⌜ outcome r (now (table .exit)) ≡ runFrom (layerOf size (now (bitmap .entry))) t (now (roll .entry)) (length (now (roll .entry)) + 1) 0 0 (now (table .entry)) ⌝ }
 {
     let mut at: usize = 0;

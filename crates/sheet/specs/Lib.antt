@@ -1,7 +1,4 @@
--- What the crate's contracts cite: the commands, the sheet that is written, the reading of one and where its commands stand; and the theorem
--- that writing and reading undo each other.
+-- What the crate's contracts cite: the commands of a sheet, the sheet that is written, and bytes stored from a place on.
 pub mod Commands
 pub mod Written
-pub mod Reading
-pub mod Places
-pub mod RoundTrips
+pub mod Stored

@@ -1,15 +1,12 @@
-// Sheets: written from a held layer, and read against a bitmap.
+// Sheets: what the commands of one are, and the call that writes one from a held layer.
+mod bytes;
 mod command;
-mod read;
-mod read_command;
-mod read_fill;
-mod read_held;
-mod read_walk;
+mod walk;
 mod write;
-mod write_bytes;
-mod write_walk;
 
-pub use read::SheetRead;
-pub use read::read_sheet;
+pub use command::CONTOUR_BYTES;
+pub use command::SIZE_BYTES;
+pub use command::VERTEX_BYTES;
+pub use command::kind_of;
 pub use write::Written;
 pub use write::write_sheet;

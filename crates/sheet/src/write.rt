@@ -1,8 +1,8 @@
 // The public call that writes a sheet.
+use super::bytes::put_byte;
+use super::bytes::put_size;
 use super::command::SIZE_BYTES;
-use super::write_bytes::put_byte;
-use super::write_bytes::put_size;
-use super::write_walk::put_contours;
+use super::walk::put_contours;
 use contour::EdgeSet;
 use contour::WORDS;
 use contour::contour_count;
@@ -16,12 +16,12 @@ ghost use Prim.Native.Nat.{_+_, _*_, _≤_};
 ghost use lib.ListN.{length};
 ghost use lib.Seq.{sets};
 ghost use Rattle.grid.specs.Layer.{layerOf, sizeOf};
-ghost use Rattle.grid.specs.Edges.{edgeCount};
 ghost use Rattle.grid.specs.Counts.{stickCount};
-ghost use Rattle.grid.specs.Questions.{firstNo, Sound};
+ghost use Rattle.grid.specs.Questions.{firstNo};
 ghost use Rattle.grid.specs.declared.question.Answer.the-variants.{Yes};
 ghost use Rattle.contour.specs.Contours.{contourCount};
 ghost use Rattle.contour.specs.Sets.{FirstSet};
+ghost use Rattle.table.specs.Lent.{Lent};
 ghost use Rattle.held.specs.Questions.{heldQuestions};
 ghost use Rattle.sheet.specs.Written.{sheetOf, outcome, writeOf};
 
@@ -33,7 +33,6 @@ pub enum Written {
 
 // "Its length is 6 + 6×contours + 2×vertices", of a layer whose first sticks are in the set.
 fn sheet_length(size: Size, bitmap: &[u8], set: &EdgeSet) -> usize
-    requires { ⌜ Sound (layerOf size (now bitmap)) ⌝ }
     requires { ⌜ FirstSet (layerOf size (now bitmap)) (now set) ⌝ }
     ensures { λ r. ⌜ r ≡ 6 + 6 * contourCount (layerOf size (now (bitmap .entry))) + 2 * stickCount (layerOf size (now (bitmap .entry))) ⌝ }
 {
@@ -42,8 +41,7 @@ fn sheet_length(size: Size, bitmap: &[u8], set: &EdgeSet) -> usize
 
 // Stores the sheet of a layer and its table.
 fn put_sheet(size: Size, bitmap: &[u8], table: &[u16], set: &EdgeSet, sheet: &mut [u8])
-    requires { ⌜ Sound (layerOf size (now bitmap)) ⌝ }
-    requires { ⌜ length (now table) ≡ edgeCount size ⌝ }
+    requires { ⌜ Lent (layerOf size (now bitmap)) (now table) ⌝ }
     requires { ⌜ FirstSet (layerOf size (now bitmap)) (now set) ⌝ }
     requires { ⌜ length (sheetOf (layerOf size (now bitmap)) (now table)) ≤ length (now sheet) ⌝ }
     ensures { λ _. ⌜ now (sheet .exit) ≡ sets (now (sheet .entry)) 0 (sheetOf (layerOf size (now (bitmap .entry))) (now (table .entry))) ⌝ }

@@ -1,8 +1,6 @@
--- Laws that the proofs of this crate and of those above it cite: on walks along a run (Steps), on marks along a contour (Marking), on runs
--- that are tried (Trying), on contours in turn (Layers), that contours do not touch each other (Locality), on runs that wait (Pending), on the call's outcome (Outcomes), what trying a run makes of it (Covers), the theorem
--- that a held layer stays held (Held), what `passes` and `simplify` say over points (Meaning), and the paper's cases (Examples).
-pub mod Steps
-pub mod Marking
+-- Laws that the proofs of this crate and of those above it cite: on runs that are tried (Trying), on contours in turn (Layers), that contours
+-- do not touch each other (Locality), on runs that wait (Pending), on the call's outcome (Outcomes), what trying a run makes of it (Covers), the
+-- theorem that a held layer stays held (Held), what `simplify` says over points (Meaning), and the paper's cases (Examples).
 pub mod Trying
 pub mod Layers
 pub mod Locality

@@ -3,62 +3,44 @@
 use mathlib.Core.Path.{_≡_, refl, sym, _∙_, ap}
 use mathlib.Core.Logic.{_≢_}
 use mathlib.Core.Bool.{true}
-use mathlib.Core.List.{List, foldl}
+use mathlib.Core.List.{List}
 use Prim.Native.Nat.{ℕ, zero, suc, _+_, _-_}
 use native.Mathlib.Omega.{arith}
 use lib.ListN.{length, getD}
-use lib.Seq.{getD-set-other}
 use Rattle.arith.proofs.Booleans.{both-sides}
-use Rattle.arith.specs.Lists.{each}
 use Rattle.grid.specs.Layer.{Layer}
 use Rattle.grid.specs.Edges.{number, edgeCount, isStick}
 use Rattle.grid.specs.Questions.{Sound}
 use Rattle.grid.specs.declared.edge.Edge.{Edge}
-use Rattle.step.specs.Walk.{next}
-use Rattle.contour.specs.Walk.{first, On, ahead}
+use Rattle.contour.specs.Walk.{first, OnContour}
 use Rattle.contour.specs.Contours.{walkOf, contourOf}
-use Rattle.contour.proofs.Members.{on-self, on-next}
+use Rattle.contour.proofs.Members.{on-self}
 use Rattle.contour.proofs.First.{first-one}
 use Rattle.contour.proofs.Sticks.{laws}
-use Rattle.chord.specs.Points.{Position, position}
-use Rattle.table.specs.Stores.{without}
-use Rattle.table.proofs.Local.{entry, Agree, Off, Local, same-offset, stored-agree, off-other, agree-other, local-commute}
-use Rattle.drawn.specs.Drawn.{vertex}
-use Rattle.simplify.specs.Runs.{stickAfter, following, between, chordPasses, passes, Progress, half, oneTried, tryRun, simplifyContour}
+use Rattle.table.proofs.Local.{entry, Agree, Off, Local, off-other, agree-other, local-commute}
+use Rattle.run.specs.Runs.{stickAfter, passes}
+use Rattle.run.proofs.Local.{on-steps, inner-elsewhere, same-passes, inner-agree}
+use Rattle.simplify.specs.Runs.{Progress, half, oneTried, tryRun, simplifyContour}
 use Rattle.simplify.specs.Parts.{begun}
 use Rattle.simplify.proofs.Trying.{onTop, inner-is, try-passes, try-splits, try-none, contour-runs}
-use Rattle.simplify.proofs.Layers.{contour-from, contour-within}
+use Rattle.simplify.proofs.Layers.{contour-from, contour-bounds}
 
 module _ (L : Layer) (sound : Sound L) (f : Edge) (stick : isStick L f ≡ true) where
-  -- a walk along the contour stays on it
-  on-steps : (n : ℕ) (e : Edge) → On (walkOf L) f e → On (walkOf L) f (stickAfter L n e)
-  unfolding ahead
-  on-steps zero e on = on
-  on-steps (suc n) e on = on-steps n (next L e) (on-next (walkOf L) (laws L sound) f e stick on)
-
-  -- ---- what simplifying changes
-
-  inner-elsewhere : (n : ℕ) (e : Edge) (t : List ℕ) (k : ℕ) → On (walkOf L) f e → Off L f k
-      → getD (foldl (without L) t (following L n e)) k 0 ≡ getD t k 0
-  inner-elsewhere zero e t k on off = refl
-  inner-elsewhere (suc n) e t k on off =
-      let on′ = on-next (walkOf L) (laws L sound) f e stick on in
-      inner-elsewhere n (next L e) (without L t (next L e)) k on′ off
-      ∙ getD-set-other t (number (L .size) (next L e)) k _ 0 (off (next L e) on′)
+  -- What simplifying changes
 
   module _ (tolerance : ℕ) where
     -- a run tried on the contour changes no entry but those of its sticks
-    pub tryRun-elsewhere : (depth : ℕ) (s : Progress) (e : Edge) (n k : ℕ) → On (walkOf L) f e → Off L f k
+    pub tryRun-elsewhere : (depth : ℕ) (s : Progress) (e : Edge) (n k : ℕ) → OnContour (walkOf L) f e → Off L f k
         → getD (tryRun L tolerance depth s e n .table) k 0 ≡ getD (s .table) k 0
     tryRun-elsewhere zero s e n k on off = ap (λ (p : Progress). getD (p .table) k 0) (try-none L tolerance s e n)
     tryRun-elsewhere (suc depth) s e n k on off = both-sides (passes L (s .table) tolerance e n)
         (λ y.
         ap (λ (p : Progress). getD (p .table) k 0) (try-passes L tolerance depth s e n y ∙ inner-is L (oneTried s) e n)
-        ∙ inner-elsewhere (n - 1) e (s .table) k on off)
+        ∙ inner-elsewhere L sound f stick e n (s .table) k on off)
         (λ b.
         ap (λ (p : Progress). getD (p .table) k 0) (try-splits L tolerance depth s e n b)
         ∙ tryRun-elsewhere depth (tryRun L tolerance depth (oneTried s) e (half n)) (stickAfter L (half n) e) (n - half n) k
-        (on-steps (half n) e on) off
+        (on-steps L sound f stick (half n) e on) off
         ∙ tryRun-elsewhere depth (oneTried s) e (half n) k on off)
 
     pub simplifyContour-elsewhere : (s : Progress) (k : ℕ) → Off L f k → getD (simplifyContour L tolerance s f .table) k 0 ≡ getD (s .table) k 0
@@ -66,34 +48,10 @@ module _ (L : Layer) (sound : Sound L) (f : Edge) (stick : isStick L f ≡ true)
         let n : ℕ = length (contourOf L f) in
         let on = on-self (walkOf L) (laws L sound) f stick in
         ap (λ (p : Progress). getD (p .table) k 0) (contour-runs L tolerance s f)
-        ∙ tryRun-elsewhere n (tryRun L tolerance n s f (half n)) (stickAfter L (half n) f) (n - half n) k (on-steps (half n) f on) off
+        ∙ tryRun-elsewhere n (tryRun L tolerance n s f (half n)) (stickAfter L (half n) f) (n - half n) k (on-steps L sound f stick (half n) f on) off
         ∙ tryRun-elsewhere n s f (half n) k on off
 
-  -- ---- what it reads
-
-  same-vertex : {t u : List ℕ} → Agree L f t u → (e : Edge) → On (walkOf L) f e → vertex L t e ≡ vertex L u e
-  same-vertex a e on = ap (position e) (same-offset L f a e on)
-
-  same-tests : {t u : List ℕ} → Agree L f t u → (tolerance : ℕ) (p q : Position) (n : ℕ) (e : Edge) → On (walkOf L) f e
-      → each (chordPasses L t tolerance p q) (following L n e) ≡ each (chordPasses L u tolerance p q) (following L n e)
-  same-tests a tolerance p q zero e on = refl
-  same-tests a tolerance p q (suc n) e on =
-      let on′ = on-next (walkOf L) (laws L sound) f e stick on in
-      rw (same-offset L f a (next L e) on′, same-tests a tolerance p q n (next L e) on′)
-
-  same-passes : {t u : List ℕ} → Agree L f t u → (tolerance : ℕ) (e : Edge) (n : ℕ) → On (walkOf L) f e
-      → passes L t tolerance e n ≡ passes L u tolerance e n
-  unfolding passes
-  same-passes {t} {u} a tolerance e n on =
-      same-tests a tolerance (vertex L t e) (vertex L t (stickAfter L n e)) (n - 1) e on
-      ∙ (λ i. each (chordPasses L u tolerance (same-vertex a e on i) (same-vertex a (stickAfter L n e) (on-steps n e on) i)) (between L e n))
-
-  inner-agree : (n : ℕ) (e : Edge) {t u : List ℕ} → On (walkOf L) f e → Agree L f t u
-      → Agree L f (foldl (without L) t (following L n e)) (foldl (without L) u (following L n e))
-  inner-agree zero e on a = a
-  inner-agree (suc n) e on a =
-      let on′ = on-next (walkOf L) (laws L sound) f e stick on in
-      inner-agree n (next L e) on′ (stored-agree L sound f stick a (next L e) on′ _ _ (ap (λ (o : ℕ). 256 + o) (same-offset L f a (next L e) on′)))
+  -- What it reads
 
   -- two results whose tables agree on the contour, with counts that differ as those of s and r do
   pub record Alike (s r s′ r′ : Progress) : Type 0 where
@@ -105,22 +63,22 @@ module _ (L : Layer) (sound : Sound L) (f : Edge) (stick : isStick L f ≡ true)
   alike-then a b = record { agree = b .agree; removed-alike = omega (arith, a, b); tried-alike = omega (arith, a, b) }
 
   module _ (tolerance : ℕ) where
-    pub tryRun-agree : (depth : ℕ) (s r : Progress) (e : Edge) (n : ℕ) → On (walkOf L) f e → Agree L f (s .table) (r .table)
+    pub tryRun-agree : (depth : ℕ) (s r : Progress) (e : Edge) (n : ℕ) → OnContour (walkOf L) f e → Agree L f (s .table) (r .table)
         → Alike s r (tryRun L tolerance depth s e n) (tryRun L tolerance depth r e n)
     tryRun-agree zero s r e n on a =
         rw (try-none L tolerance s e n, try-none L tolerance r e n)
         (record { agree = a; removed-alike = omega arith; tried-alike = omega arith })
     tryRun-agree (suc depth) s r e n on a =
-        let same = same-passes a tolerance e n on in
+        let same = same-passes L sound f stick a tolerance e n on in
         both-sides (passes L (s .table) tolerance e n)
         (λ y.
         rw (
           try-passes L tolerance depth s e n y ∙ inner-is L (oneTried s) e n,
           try-passes L tolerance depth r e n (sym same ∙ y) ∙ inner-is L (oneTried r) e n,
-        ) (record { agree = inner-agree (n - 1) e on a; removed-alike = omega arith; tried-alike = omega arith }))
+        ) (record { agree = inner-agree L sound f stick e n on a; removed-alike = omega arith; tried-alike = omega arith }))
         (λ b.
         let one = tryRun-agree depth (oneTried s) (oneTried r) e (half n) on a in
-        let two = tryRun-agree depth _ _ (stickAfter L (half n) e) (n - half n) (on-steps (half n) e on) (one .agree) in
+        let two = tryRun-agree depth _ _ (stickAfter L (half n) e) (n - half n) (on-steps L sound f stick (half n) e on) (one .agree) in
         rw (try-splits L tolerance depth s e n b, try-splits L tolerance depth r e n (sym same ∙ b))
         (record { agree = two .agree; removed-alike = omega (arith, one, two); tried-alike = omega (arith, one, two) }))
 
@@ -131,14 +89,14 @@ module _ (L : Layer) (sound : Sound L) (f : Edge) (stick : isStick L f ≡ true)
         let n : ℕ = length (contourOf L f) in
         let on = on-self (walkOf L) (laws L sound) f stick in
         let one = tryRun-agree n s r f (half n) on a in
-        let two = tryRun-agree n _ _ (stickAfter L (half n) f) (n - half n) (on-steps (half n) f on) (one .agree) in
+        let two = tryRun-agree n _ _ (stickAfter L (half n) f) (n - half n) (on-steps L sound f stick (half n) f on) (one .agree) in
         rw (contour-runs L tolerance s f, contour-runs L tolerance r f) (alike-then one two)
 
     -- so simplifying a contour is a step local to it
     pub simplifyContour-local : Local L f (λ t. simplifyContour L tolerance (begun t) f .table)
     simplifyContour-local =
         record {
-          same-length = λ t. contour-within L tolerance (begun t) f .whole;
+          same-length = λ t. contour-bounds L tolerance (begun t) f .same-length;
           elsewhere = λ t k off. simplifyContour-elsewhere tolerance (begun t) k off;
           agrees = λ t u a. simplifyContour-agree (begun t) (begun u) a .agree;
         }
@@ -154,7 +112,7 @@ module _ (L : Layer) (sound : Sound L) (tolerance : ℕ) (f g : Edge) (first-f :
   stick-g = first-one (walkOf L) (laws L sound) g first-g
 
   -- simplifying one changes no entry of another
-  pub other-contour : (s : Progress) (e : Edge) → On (walkOf L) g e → entry L (simplifyContour L tolerance s f .table) e ≡ entry L (s .table) e
+  pub other-contour : (s : Progress) (e : Edge) → OnContour (walkOf L) g e → entry L (simplifyContour L tolerance s f .table) e ≡ entry L (s .table) e
   other-contour s e on = simplifyContour-elsewhere L sound f stick-f tolerance s (number (L .size) e) (off-other L sound f g first-f first-g differ e on)
 
   -- and of two contours it does not matter which is simplified first

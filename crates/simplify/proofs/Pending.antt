@@ -8,18 +8,17 @@ use native.Mathlib.Omega.{arith}
 use lib.ListN.{length, getD, set, length-set}
 use lib.Seq.{getD-set-same, getD-set-other}
 use Rattle.grid.specs.Layer.{Layer}
-use Rattle.grid.specs.Edges.{isStick}
-use Rattle.grid.specs.Questions.{Sound}
+use Rattle.grid.specs.Edges.{edgeCount, isStick}
 use Rattle.grid.specs.declared.edge.Edge.{Edge}
-use Rattle.contour.specs.Contours.{contourOf}
 use Rattle.table.specs.Stores.{without}
 use Rattle.drawn.proofs.FourKept.{four-sticks}
-use Rattle.simplify.specs.Runs.{stickAfter, between, passes, Progress, half, oneTried, tryRun, simplifyContour}
-use Rattle.simplify.specs.Marks.{Marked, Along}
+use Rattle.run.specs.Runs.{stickAfter, between, passes, HasSticks, RunLent}
+use Rattle.run.specs.Marks.{MarkedAlong, Along}
+use Rattle.run.proofs.Steps.{no-steps, steps-on, steps-rest, stick-on, once-round, most-sticks}
+use Rattle.simplify.specs.Runs.{Progress, half, oneTried, tryRun, simplifyContour}
 use Rattle.simplify.specs.Parts.{begun}
-use Rattle.simplify.proofs.Steps.{stick-none, steps-on, stick-on, once-round, most-sticks}
-use Rattle.simplify.proofs.Trying.{Split, split, split-of, inner-is, length-inner, end-of, try-passes, try-splits, try-deep, try-within, contour-runs}
-use Rattle.simplify.proofs.Layers.{contour-within}
+use Rattle.simplify.proofs.Trying.{Split, split, split-of, inner-is, length-inner, try-passes, try-splits, try-deep, try-bounds, contour-runs}
+use Rattle.simplify.proofs.Layers.{contour-bounds}
 
 -- The runs that wait
 
@@ -76,7 +75,7 @@ halved (suc c) m more small = (c, refl, omega arith, omega arith)
 
 module _ (L : Layer) (n : ℕ) where
   -- a run from e that has d halvings left, c or more
-  pub record Fits (e : Edge) (r : Run) (c d : ℕ) : Type 0 where
+  pub record HalvingsLeft (e : Edge) (r : Run) (c d : ℕ) : Type 0 where
     pub some : 1 ≤ r .edges
     pub ends : r .end ≡ stickAfter L (r .edges) e
     pub least : c ≤ d
@@ -85,7 +84,7 @@ module _ (L : Layer) (n : ℕ) where
   -- the runs follow each other from e, which is q steps on, to the end of the contour, and have c or more halvings left, each more than the one before
   abbrev pub Waits : ℕ → ℕ → Edge → List Run → Type 0
   Waits q c e [] = (q ≡ n) × (c ≤ 21)
-  Waits q c e (r ∷ l) = (d : ℕ) × Fits e r c d × Waits (q + r .edges) (suc d) (r .end) l
+  Waits q c e (r ∷ l) = (d : ℕ) × HalvingsLeft e r c d × Waits (q + r .edges) (suc d) (r .end) l
 
   -- so there are few of them
   waits-few : (q c : ℕ) (e : Edge) (l : List Run) → Waits q c e l → (c + length l ≤ 21) × (q ≤ n)
@@ -109,7 +108,7 @@ module _ (L : Layer) (tolerance : ℕ) where
   all-more : (s : Progress) (e : Edge) (l : List Run) → (s .removed ≤ tryAll s e l .removed) × (s .tried ≤ tryAll s e l .tried)
   all-more s e [] = (omega arith, omega arith)
   all-more s e (r ∷ l) =
-      let w = try-within L tolerance (r .edges) s e (r .edges) in
+      let w = try-bounds L tolerance (r .edges) s e (r .edges) in
       let m = all-more (tryRun L tolerance (r .edges) s e (r .edges)) (stickAfter L (r .edges) e) l in
       (omega (arith, w .removed-least, m .0), omega (arith, w .tried-least, m .1))
 
@@ -143,7 +142,7 @@ module _ (L : Layer) (tolerance : ℕ) where
 module _ (L : Layer) (tolerance : ℕ) (f : Edge) (n : ℕ) (t₀ : List ℕ) where
   -- what holds where the run of m edges from e to `end` is tried and others wait
   pub record Pending (table counts : List ℕ) (ends : List Edge) (m top : ℕ) (e : Edge) (p : ℕ) (end : Edge) (removed tried : ℕ) : Type 0 where
-    pub whole : length table ≡ length t₀
+    pub same-length : length table ≡ length t₀
     pub sized : length counts ≡ 22
     pub sized-too : length ends ≡ 22
     pub here : e ≡ stickAfter L p f
@@ -155,59 +154,61 @@ module _ (L : Layer) (tolerance : ℕ) (f : Edge) (n : ℕ) (t₀ : List ℕ) wh
     pub gives : tryAll L tolerance (record { table = table; removed = removed; tried = tried }) e (record { edges = m; end = end } ∷ waiting f counts ends top)
         ≡ simplifyContour L tolerance (begun t₀) f
 
--- what the loop is given: a sound layer, and a contour of n sticks from f on
-pub record Given (L : Layer) (f : Edge) (n : ℕ) : Type 0 where
-  pub sound : Sound L
-  pub stick : isStick L f ≡ true
-  pub all : n ≡ length (contourOf L f)
-
-module _ {L : Layer} {f : Edge} {n : ℕ} (given : Given L f n) where
+module _ {L : Layer} {f : Edge} {n : ℕ} (contour : HasSticks L f n) where
   n-split : Split n
-  n-split = split-of n (omega (arith, given .all, four-sticks L (given .sound) f (given .stick)))
-
-  pub n-small : n ≤ 2095104
-  n-small = omega (arith, given .all, most-sticks L (given .sound) f (given .stick))
+  n-split = split-of n (omega (arith, contour .all, four-sticks L (contour .sound) f (contour .stick)))
 
   -- where the first run ends
-  pub start-along : {h : ℕ} → h ≡ half n → {marks : List ℕ} → Marked L f marks → Along L marks f 0 h
+  pub start-along : {h : ℕ} → h ≡ half n → {marks : List ℕ} → MarkedAlong L f marks → Along L marks f 0 h
   start-along at-h marked =
-      record { from = f; stick = given .stick; marked = marked; here = sym (stick-none L 0 f (omega arith)); inside = omega (arith, n-split, at-h, given .all) }
+      record {
+        sound = contour .sound;
+        from = f;
+        stick = contour .stick;
+        marked = marked;
+        here = no-steps L f;
+        inside = omega (arith, n-split, at-h, contour .all);
+      }
 
   -- at the start the second run waits
-  pub pending-start : {tolerance : ℕ} {t₀ : List ℕ} (counts : List ℕ) (ends : List Edge) (h : ℕ) (u : Edge) → length counts ≡ 22 → length ends ≡ 22
+  pub pending-start : {tolerance : ℕ} {t₀ counts : List ℕ} {ends : List Edge} {h : ℕ} {u : Edge} → length counts ≡ 22 → length ends ≡ 22
       → getD counts 0 0 ≡ n - h → getD ends 0 f ≡ f → h ≡ half n → u ≡ stickAfter L h f → Pending L tolerance f n t₀ t₀ counts ends h 1 f 0 u 0 0
-  pending-start {tolerance} {t₀} counts ends h u sized sized-too first-edges first-end at-h at-u =
+  pending-start {tolerance} {t₀} {counts} {ends} {h} {u} sized sized-too first-edges first-end at-h at-u =
       let s = n-split in
-      let back : f ≡ stickAfter L (n - h) u =
-      end-of L tolerance f u f n h (omega (arith, s, at-h)) at-u (once-round L (given .sound) f n (given .stick) (given .all)) in
+      let back : f ≡ stickAfter L (n - h) u = steps-rest L f h n (omega (arith, s, at-h)) at-u (once-round contour) in
       let second : Run = record { edges = n - h; end = f } in
       let one : waiting f counts ends 1 ≡ second ∷ [] = λ i. record { edges = first-edges i; end = first-end i } ∷ [] in
       record {
-        whole = refl;
+        same-length = refl;
         sized = sized;
         sized-too = sized-too;
-        here = sym (stick-none L 0 f (omega arith));
+        here = no-steps L f;
         some = omega (arith, s, at-h);
         ends-at = at-u;
         left = 20;
-        small = omega (arith, n-small, at-h);
+        small = omega (arith, most-sticks contour, at-h);
         waits = subst (Waits L n (0 + h) 20 u) (sym one) (
           20,
-          record { some = omega (arith, s, at-h); ends = back; least = omega arith; small = omega (arith, n-small, at-h) },
+          record { some = omega (arith, s, at-h); ends = back; least = omega arith; small = omega (arith, most-sticks contour, at-h) },
           (omega (arith, s, at-h), omega arith),
         );
         gives = ap (λ (l : List Run). tryAll L tolerance (begun t₀) f (record { edges = h; end = u } ∷ l)) one
             ∙ ap (λ (x : Edge). tryRun L tolerance (n - h) (tryRun L tolerance h (begun t₀) f h) x (n - h)) (sym at-u)
             ∙ two-deep L tolerance n h (n - h) (begun t₀) f u (omega (arith, s, at-h)) (omega (arith, s, at-h)) (omega (arith, s, at-h)) (omega (arith, s, at-h))
             ∙ (λ i. tryRun L tolerance n (tryRun L tolerance n (begun t₀) f (at-h i)) ((at-u ∙ ap (λ (k : ℕ). stickAfter L k f) at-h) i) (n - at-h i))
-            ∙ ap (λ (k : ℕ). tryRun L tolerance k (tryRun L tolerance k (begun t₀) f (half k)) (stickAfter L (half k) f) (k - half k)) (given .all)
+            ∙ ap (λ (k : ℕ). tryRun L tolerance k (tryRun L tolerance k (begun t₀) f (half k)) (stickAfter L (half k) f) (k - half k)) (contour .all)
             ∙ sym (contour-runs L tolerance (begun t₀) f);
       }
 
   module _ {tolerance : ℕ} {t₀ table counts : List ℕ} {ends : List Edge} {m top : ℕ} {e : Edge} {p : ℕ} {end : Edge} {removed tried : ℕ}
       (now : Pending L tolerance f n t₀ table counts ends m top e p end removed tried) where
-    pub stands : isStick L e ≡ true
-    stands = stick-on L (given .sound) f e p (given .stick) (now .here)
+    stands : isStick L e ≡ true
+    stands = stick-on L f p (contour .sound) (contour .stick) (now .here)
+
+    -- what the code that works on the run is given
+    pub run-lent : length t₀ ≡ edgeCount (L .size) → RunLent L table e end m
+    run-lent exact =
+        record { sound = contour .sound; exact = now .same-length ∙ exact; stick = stands; ends = now .ends-at }
 
     pub inside : p + m ≤ n
     inside = waits-few L n (p + m) (now .left) end (waiting f counts ends top) (now .waits) .1
@@ -222,12 +223,12 @@ module _ {L : Layer} {f : Edge} {n : ℕ} (given : Given L f n) where
     counts-small =
         let s : Progress = record { table = table; removed = removed; tried = tried } in
         let a = rw (now .gives) at (all-more L tolerance s e (record { edges = m; end = end } ∷ waiting f counts ends top)) in
-        let w = contour-within L tolerance (begun t₀) f in
-        let c = n-small in
-        (omega (arith, a .0, w .removed-most, given .all), omega (arith, a .1, w .tried-most, given .all), a .1)
+        let w = contour-bounds L tolerance (begun t₀) f in
+        let c = most-sticks contour in
+        (omega (arith, a .0, w .removed-most, contour .all), omega (arith, a .1, w .tried-most, contour .all), a .1)
 
     -- the run is split
-    module _ (no-pass : passes L table tolerance e m ≡ false) (h : ℕ) (at-h : h ≡ half m) where
+    module _ (no-pass : passes L table tolerance e m ≡ false) {h : ℕ} (at-h : h ≡ half m) where
       parts : Split m
       parts = split L table tolerance e m no-pass
 
@@ -239,12 +240,20 @@ module _ {L : Layer} {f : Edge} {n : ℕ} (given : Given L f n) where
           let c = halved (now .left) m (parts .more) (now .small) in
           omega (arith, few, c .1)
 
-      pub along : {marks : List ℕ} → Marked L f marks → Along L marks e p h
-      along marked = record { from = f; stick = given .stick; marked = marked; here = now .here; inside = omega (arith, inside, parts, at-h, given .all) }
+      pub along : {marks : List ℕ} → MarkedAlong L f marks → Along L marks e p h
+      along marked =
+          record {
+            sound = contour .sound;
+            from = f;
+            stick = contour .stick;
+            marked = marked;
+            here = now .here;
+            inside = omega (arith, inside, parts, at-h, contour .all);
+          }
 
-      pub pending-split : (u : Edge) → u ≡ stickAfter L h e
+      pub pending-split : {u : Edge} → u ≡ stickAfter L h e
           → Pending L tolerance f n t₀ table (set counts top (m - h)) (set ends top end) h (top + 1) e p u removed (tried + 1)
-      pending-split u at-u =
+      pending-split {u} at-u =
           let q = parts in
           let s : Progress = record { table = table; removed = removed; tried = tried } in
           let c = halved (now .left) m (q .more) (now .small) in
@@ -252,12 +261,13 @@ module _ {L : Layer} {f : Edge} {n : ℕ} (given : Given L f n) where
           let w : List Run = waiting f counts ends top in
           let one : waiting f (set counts top (m - h)) (set ends top end) (top + 1) ≡ second ∷ w =
           waiting-more f counts ends top (m - h) end (omega (arith, room, now .sized)) (omega (arith, room, now .sized-too)) in
-          let there : end ≡ stickAfter L (m - h) u = end-of L tolerance e u end m h part-less at-u (now .ends-at) in
+          let there : end ≡ stickAfter L (m - h) u = steps-rest L e h m part-less at-u (now .ends-at) in
+          let onward : stickAfter L (m - h) (stickAfter L h e) ≡ stickAfter L m e = ap (stickAfter L (m - h)) (sym at-u) ∙ sym there ∙ now .ends-at in
           let sum : p + m ≡ p + h + (m - h) = omega (arith, part-less) in
           let split-here : tryRun L tolerance m s e m ≡ tryRun L tolerance (m - h) (tryRun L tolerance h (oneTried s) e h) u (m - h) =
           run-split L tolerance s e u m h no-pass at-h at-u in
           record {
-            whole = now .whole;
+            same-length = now .same-length;
             sized = length-set counts top (m - h) ∙ now .sized;
             sized-too = length-set ends top end ∙ now .sized-too;
             here = now .here;
@@ -271,14 +281,14 @@ module _ {L : Layer} {f : Edge} {n : ℕ} (given : Given L f n) where
               rw (sum, c .1) at (now .waits),
             );
             gives = rw one (
-                (λ i. tryAll L tolerance (tryRun L tolerance (m - h) (tryRun L tolerance h (oneTried s) e h) (sym at-u i) (m - h)) ((ap (stickAfter L (m - h)) (sym at-u) ∙ sym there ∙ now .ends-at) i) w)
+                (λ i. tryAll L tolerance (tryRun L tolerance (m - h) (tryRun L tolerance h (oneTried s) e h) (sym at-u i) (m - h)) (onward i) w)
                 ∙ ap (λ (x : Progress). tryAll L tolerance x (stickAfter L m e) w) (sym split-here)
                 ∙ now .gives
                 );
           }
 
     -- the run passes
-    module _ (pass : passes L table tolerance e m ≡ true) (table′ : List ℕ) (is : table′ ≡ foldl (without L) table (between L e m)) where
+    module _ (pass : passes L table tolerance e m ≡ true) {table′ : List ℕ} (is : table′ ≡ foldl (without L) table (between L e m)) where
       passed : tryAll L tolerance (record { table = table′; removed = removed + (m - 1); tried = tried + 1 }) end (waiting f counts ends top)
           ≡ simplifyContour L tolerance (begun t₀) f
       passed =
@@ -294,19 +304,20 @@ module _ {L : Layer} {f : Edge} {n : ℕ} (given : Given L f n) where
       pending-last none = rw none at passed
 
       -- or the next one is tried
-      pub pending-next : 0 < top → (m′ : ℕ) (end′ d : Edge) → m′ ≡ getD counts (top - 1) 0 → end′ ≡ getD ends (top - 1) d
+      pub pending-next : 0 < top → {m′ : ℕ} {end′ : Edge} (d : Edge) → m′ ≡ getD counts (top - 1) 0 → end′ ≡ getD ends (top - 1) d
           → Pending L tolerance f n t₀ table′ counts ends m′ (top - 1) end (p + m) end′ (removed + (m - 1)) (tried + 1)
-      pending-next some m′ end′ d at-m at-end =
+      pending-next some {m′} {end′} d at-m at-end =
           let w : List Run = waiting f counts ends (top - 1) in
           let r : Run = record { edges = m′; end = end′ } in
+          let at-f : end′ ≡ getD ends (top - 1) f = at-end ∙ past ends (top - 1) d f (omega (arith, few, now .sized-too)) in
           let one : waiting f counts ends top ≡ r ∷ w =
-          waiting-less f counts ends top some ∙ (λ i. record { edges = sym at-m i; end = sym (at-end ∙ past ends (top - 1) d f (omega (arith, few, now .sized-too))) i } ∷ w) in
+          waiting-less f counts ends top some ∙ (λ i. record { edges = sym at-m i; end = sym at-f i } ∷ w) in
           let next : Waits L n (p + m) (now .left) end (r ∷ w) = rw one at (now .waits) in
           record {
-            whole = ap length is ∙ length-inner L (between L e m) table ∙ now .whole;
+            same-length = ap length is ∙ length-inner L (between L e m) table ∙ now .same-length;
             sized = now .sized;
             sized-too = now .sized-too;
-            here = steps-on L f e end p m (p + m) refl (now .here) (now .ends-at);
+            here = steps-on L f p m (now .here) (now .ends-at);
             some = next .1 .some;
             ends-at = next .1 .ends;
             left = next .0;

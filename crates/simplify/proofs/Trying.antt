@@ -10,15 +10,15 @@ use lib.ListN.{length}
 use Rattle.arith.proofs.Booleans.{both-sides}
 use Rattle.grid.specs.Layer.{Layer}
 use Rattle.grid.specs.declared.edge.Edge.{Edge}
-use Rattle.contour.specs.Contours.{walkOf, contourOf}
-use Rattle.contour.proofs.Orbit.{ahead-add}
+use Rattle.contour.specs.Contours.{contourOf}
 use Rattle.table.specs.Vertices.{offsetAt}
 use Rattle.table.specs.Stores.{without}
 use Rattle.table.specs.declared.entry.Entry.the-variants.{Removed}
 use Rattle.table.proofs.Stores.{store-length}
-use Rattle.simplify.specs.Runs.{stickAfter, between, passes, Progress, removeInner, half, oneTried, tryRun, simplifyContour}
+use Rattle.run.specs.Runs.{stickAfter, between, passes}
+use Rattle.run.proofs.Passing.{passes-short}
+use Rattle.simplify.specs.Runs.{Progress, removeInner, half, oneTried, tryRun, simplifyContour}
 use Rattle.simplify.specs.Parts.{begun}
-use Rattle.simplify.proofs.Steps.{each-none}
 
 -- the counts of p on top of those of s
 abbrev pub onTop : Progress → Progress → Progress
@@ -34,12 +34,7 @@ pub inner-is : (L : Layer) (s : Progress) (e : Edge) (n : ℕ) → removeInner L
 unfolding removeInner
 inner-is L s e n = refl
 
--- a single edge passes
-pub passes-short : (L : Layer) (t : List ℕ) (tolerance : ℕ) (e : Edge) (n : ℕ) → n ≤ 1 → passes L t tolerance e n ≡ true
-unfolding passes
-passes-short L t tolerance e n h = each-none L _ n e h
-
--- so a run that does not pass has two edges or more, and two parts that are shorter
+-- as a single edge passes, a run that does not has two edges or more, and two parts that are shorter
 pub record Split (n : ℕ) : Type 0 where
   pub more : 2 ≤ n
   pub first-some : 1 ≤ half n
@@ -65,13 +60,52 @@ split L t tolerance e n f = split-of n (elim (decLe n 1) [
   | no g ↦ omega arith
 ])
 
--- how many runs are tried, and vertices removed
-pub record Within (n : ℕ) (s r : Progress) : Type 0 where
+-- from s to r at most so many runs are tried and so many vertices removed, and the table keeps its length
+pub record CountBounds (tries removals : ℕ) (s r : Progress) : Type 0 where
   pub tried-least : s .tried ≤ r .tried
-  pub tried-most : r .tried ≤ s .tried + (1 + 2 * (n - 1))
+  pub tried-most : r .tried ≤ s .tried + tries
   pub removed-least : s .removed ≤ r .removed
-  pub removed-most : r .removed ≤ s .removed + (n - 1)
-  pub whole : length (r .table) ≡ length (s .table)
+  pub removed-most : r .removed ≤ s .removed + removals
+  pub same-length : length (r .table) ≡ length (s .table)
+
+pub bounds-none : {a b : ℕ} {s : Progress} → CountBounds a b s s
+bounds-none =
+    record { tried-least = omega arith; tried-most = omega arith; removed-least = omega arith; removed-most = omega arith; same-length = refl }
+
+pub bounds-then : {a b c d : ℕ} {s m r : Progress} → CountBounds a b s m → CountBounds c d m r → CountBounds (a + c) (b + d) s r
+bounds-then one two =
+    record {
+      tried-least = omega (arith, one, two);
+      tried-most = omega (arith, one, two);
+      removed-least = omega (arith, one, two);
+      removed-most = omega (arith, one, two);
+      same-length = two .same-length ∙ one .same-length;
+    }
+
+pub bounds-wider : {a b a′ b′ : ℕ} {s r : Progress} → a ≤ a′ → b ≤ b′ → CountBounds a b s r → CountBounds a′ b′ s r
+bounds-wider more-tries more-removals one =
+    record {
+      tried-least = one .tried-least;
+      tried-most = omega (arith, one);
+      removed-least = one .removed-least;
+      removed-most = omega (arith, one);
+      same-length = one .same-length;
+    }
+
+bounds-tried : {s : Progress} → CountBounds 1 0 s (oneTried s)
+bounds-tried =
+    record { tried-least = omega arith; tried-most = omega arith; removed-least = omega arith; removed-most = omega arith; same-length = refl }
+
+bounds-inner : (L : Layer) (s : Progress) (e : Edge) (n : ℕ) → CountBounds 0 (n - 1) s (removeInner L s e n)
+unfolding removeInner
+bounds-inner L s e n =
+    record {
+      tried-least = omega arith;
+      tried-most = omega arith;
+      removed-least = omega arith;
+      removed-most = omega arith;
+      same-length = length-inner L (between L e n) (s .table);
+    }
 
 module _ (L : Layer) (tolerance : ℕ) where
   by-passes : ℕ → Progress → Edge → ℕ → Bool → Progress
@@ -167,37 +201,18 @@ module _ (L : Layer) (tolerance : ℕ) where
       (omega (arith, p)) (omega (arith, p)) (omega (arith, p)) (omega (arith, p))
       ∙ sym (try-splits d′ s e n f))
 
-  pub try-within : (depth : ℕ) (s : Progress) (e : Edge) (n : ℕ) → Within n s (tryRun L tolerance depth s e n)
-  unfolding removeInner
-  try-within zero s e n =
-      rw (try-none s e n)
-      (record { tried-least = omega arith; tried-most = omega arith; removed-least = omega arith; removed-most = omega arith; whole = refl })
-  try-within (suc depth) s e n = both-sides (passes L (s .table) tolerance e n)
-      (λ y. rw (try-passes depth s e n y) (record {
-        tried-least = omega arith;
-        tried-most = omega arith;
-        removed-least = omega arith;
-        removed-most = omega arith;
-        whole = length-inner L (between L e n) (s .table);
-      }))
+  pub try-bounds : (depth : ℕ) (s : Progress) (e : Edge) (n : ℕ) → CountBounds (1 + 2 * (n - 1)) (n - 1) s (tryRun L tolerance depth s e n)
+  try-bounds zero s e n = rw (try-none s e n) bounds-none
+  try-bounds (suc depth) s e n = both-sides (passes L (s .table) tolerance e n)
+      (λ y.
+      rw (try-passes depth s e n y)
+      (bounds-wider (omega arith) (omega arith) (bounds-then bounds-tried (bounds-inner L (oneTried s) e n))))
       (λ f.
       let p = split L (s .table) tolerance e n f in
-      let m = stickAfter L (half n) e in
-      let a = try-within depth (oneTried s) e (half n) in
-      let b = try-within depth (tryRun L tolerance depth (oneTried s) e (half n)) m (n - half n) in
-      rw (try-splits depth s e n f) (record {
-        tried-least = omega (arith, a .tried-least, b .tried-least);
-        tried-most = omega (arith, p, a .tried-most, b .tried-most);
-        removed-least = omega (arith, a .removed-least, b .removed-least);
-        removed-most = omega (arith, p, a .removed-most, b .removed-most);
-        whole = b .whole ∙ a .whole;
-      }))
-
-  -- where the second part of a run ends
-  pub end-of : (e m end : Edge) (n h : ℕ) → h ≤ n → m ≡ stickAfter L h e → end ≡ stickAfter L n e → end ≡ stickAfter L (n - h) m
-  end-of e m end n h l at-m at-end =
-      let sum : h + (n - h) ≡ n = omega arith in
-      at-end ∙ ap (λ (k : ℕ). stickAfter L k e) (sym sum) ∙ ahead-add (walkOf L) h (n - h) e ∙ ap (stickAfter L (n - h)) (sym at-m)
+      let one = try-bounds depth (oneTried s) e (half n) in
+      let two = try-bounds depth (tryRun L tolerance depth (oneTried s) e (half n)) (stickAfter L (half n) e) (n - half n) in
+      rw (try-splits depth s e n f)
+      (bounds-wider (omega (arith, p)) (omega (arith, p)) (bounds-then bounds-tried (bounds-then one two))))
 
   -- a contour
   pub contour-runs : (s : Progress) (f : Edge) → let n : ℕ = length (contourOf L f) in simplifyContour L tolerance s f

@@ -1,6 +1,5 @@
--- What the promise of Simplify says (Runs, Call), the same over points (Meaning), and what the contracts of its parts cite besides (Parts, Marks).
+-- What the promise of Simplify says (Runs, Call), the same over points (Meaning), and what the contracts of its parts cite besides (Parts).
 pub mod Runs
 pub mod Parts
 pub mod Meaning
-pub mod Marks
 pub mod Call

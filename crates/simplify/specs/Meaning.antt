@@ -1,28 +1,16 @@
--- Simplify said over points: when a run passes, and what trying a run, a contour and all contours results in, step by step as the paper
--- says it. The definitions of Runs.antt, which compute, are this (proofs/Meaning.antt).
+-- Simplify said over points: what trying a run, a contour and all contours results in, step by step as the paper says it. When a run passes
+-- over points is `RunPasses` (`run` Meaning.antt). The definitions of Runs.antt, which compute, are this (proofs/Meaning.antt).
 use mathlib.Core.Path.{_≡_}
 use mathlib.Core.List.{List, [], _∷_}
-use Prim.Native.Nat.{ℕ, _-_, _<_}
+use Prim.Native.Nat.{ℕ, _-_}
 use lib.ListN.{length}
 use Rattle.grid.specs.Layer.{Layer}
 use Rattle.grid.specs.declared.edge.Edge.{Edge}
-use Rattle.contour.specs.Walk.{occurrences}
-use Rattle.contour.specs.Contours.{walkOf, contourOf, firstSticks}
-use Rattle.chord.specs.Points.{CrossesWithin}
-use Rattle.table.specs.Vertices.{offsetAt}
-use Rattle.drawn.specs.Drawn.{vertex}
-use Rattle.simplify.specs.Runs.{stickAfter, between, Progress, removeInner, half, oneTried}
+use Rattle.contour.specs.Contours.{contourOf, firstSticks}
+use Rattle.run.specs.Runs.{stickAfter}
+use Rattle.run.specs.Meaning.{RunPasses}
+use Rattle.simplify.specs.Runs.{Progress, removeInner, half, oneTried}
 use Rattle.simplify.specs.Parts.{begun}
-
--- u is one of the sticks between the ends of the run of n edges from e
-abbrev pub Between : Layer → Edge → ℕ → Edge → Type 0
-Between L e n u = 0 < occurrences (walkOf L) u (between L e n)
-
--- "A run passes if it is a single edge, or if its chord crosses each stick between and each vertex there would slide at most T (in 1/256,
--- compared exactly).": a single edge has no stick between
-abbrev pub RunPasses : Layer → List ℕ → ℕ → Edge → ℕ → Type 0
-RunPasses L t tolerance e n =
-    (u : Edge) → Between L e n u → CrossesWithin tolerance (vertex L t e) (vertex L t (stickAfter L n e)) u (offsetAt L t u)
 
 -- the run of n edges from e is tried, from s on, with the result r: "Inner vertices of a passing run are removed." "A run that does not pass
 -- is split, its first part having half its edges rounded down, and each part is tried."

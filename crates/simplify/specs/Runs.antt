@@ -1,42 +1,13 @@
--- Runs along a contour, when one passes, and how a run that does not pass is split. A run is a stick and a number of edges: from the vertex
--- of the stick to that of the stick so many steps on.
-use mathlib.Core.Bool.{Bool, true, false, _&&_}
-use mathlib.Core.List.{List, [], _∷_, foldl}
+-- What is done with the runs of a contour: one that passes loses its inner vertices, one that does not is split and its parts are tried.
+use mathlib.Core.Bool.{true, false}
+use mathlib.Core.List.{List, foldl}
 use Prim.Native.Nat.{ℕ, zero, suc, _+_, _-_, _/_}
 use lib.ListN.{length}
-use Rattle.arith.specs.Lists.{each}
 use Rattle.grid.specs.Layer.{Layer}
 use Rattle.grid.specs.declared.edge.Edge.{Edge}
-use Rattle.step.specs.Walk.{next}
-use Rattle.contour.specs.Walk.{ahead}
-use Rattle.contour.specs.Contours.{walkOf, contourOf, firstSticks}
-use Rattle.chord.specs.Points.{Position}
-use Rattle.chord.specs.Crossing.{crosses, slidesWithin}
-use Rattle.table.specs.Vertices.{offsetAt}
+use Rattle.contour.specs.Contours.{contourOf, firstSticks}
 use Rattle.table.specs.Stores.{without}
-use Rattle.drawn.specs.Drawn.{vertex}
-
--- the stick n steps on from e
-abbrev pub stickAfter : Layer → ℕ → Edge → Edge
-stickAfter L n e = ahead (walkOf L) n e
-
--- the n sticks that follow e
-abbrev pub following : Layer → ℕ → Edge → List Edge
-following L zero e = []
-following L (suc n) e = next L e ∷ following L n (next L e)
-
--- the sticks between the ends of a run of n edges
-abbrev pub between : Layer → Edge → ℕ → List Edge
-between L e n = following L (n - 1) e
-
--- "its chord crosses each stick between and each vertex there would slide at most T (in 1/256, compared exactly)": at one stick
-abbrev pub chordPasses : Layer → List ℕ → ℕ → Position → Position → Edge → Bool
-chordPasses L t tolerance p q u = crosses p q u && slidesWithin tolerance p q u (offsetAt L t u)
-
--- "A run passes if it is a single edge, or if its chord crosses each stick between and each vertex there would slide at most T": a single
--- edge has no stick between. Over points this is `RunPasses` (Meaning.antt).
-unfoldable pub passes : Layer → List ℕ → ℕ → Edge → ℕ → Bool
-passes L t tolerance e n = each (chordPasses L t tolerance (vertex L t e) (vertex L t (stickAfter L n e))) (between L e n)
+use Rattle.run.specs.Runs.{stickAfter, between, passes}
 
 -- the result of simplifying so far: the table, "the vertices removed and the runs tried"
 pub record Progress : Type 0 where

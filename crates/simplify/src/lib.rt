@@ -2,8 +2,6 @@
 // n log n at most.
 mod call;
 mod contours;
-mod marks;
-mod run;
 mod tries;
 
 pub use call::Simplified;

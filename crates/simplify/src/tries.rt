@@ -1,26 +1,18 @@
 // Trying the runs of a contour: a run that passes loses its inner vertices, one that does not is split and its parts are tried. Those that
 // are still to be tried wait in an array.
-use super::marks::PLACES;
-use super::marks::put_marks;
-use super::marks::stick_at;
-use super::run::RunCounts;
-use super::run::half_of;
-use super::run::passes_run;
-use super::run::remove_inner;
-use contour::same_edge;
 use grid::Edge;
 use grid::Size;
-use step::next_stick;
+use run::PLACES;
+use run::contour_length;
+use run::passes_run;
+use run::put_marks;
+use run::remove_inner;
+use run::stick_at;
 ghost use mathlib.Core.Path.{_≡_};
-ghost use mathlib.Core.Bool.{true};
-ghost use lib.ListN.{length};
 ghost use Rattle.grid.specs.Layer.{layerOf};
-ghost use Rattle.grid.specs.Edges.{isStick, edgeCount};
-ghost use Rattle.grid.specs.Questions.{Sound};
-ghost use Rattle.contour.specs.Contours.{contourOf};
-ghost use Rattle.simplify.specs.Runs.{simplifyContour};
-ghost use Rattle.simplify.specs.Marks.{Marked};
-ghost use Rattle.simplify.specs.Parts.{begun, reached};
+ghost use Rattle.table.specs.Lent.{LentAt};
+ghost use Rattle.simplify.specs.Runs.{half, simplifyContour};
+ghost use Rattle.simplify.specs.Parts.{begun, reached, ContourLent};
 
 // A contour of this many sticks or more is worth marks.
 const LONG_CONTOUR: usize = 4096;
@@ -28,22 +20,17 @@ const LONG_CONTOUR: usize = 4096;
 // How many runs can wait. Each has fewer halvings left than the one that waits below it, and the lowest has at most 20.
 const ROOM: usize = 22;
 
-// How many sticks the contour that starts at `first` has.
-fn contour_length(size: Size, bitmap: &[u8], first: Edge) -> usize
-    requires { ⌜ Sound (layerOf size (now bitmap)) ⌝ }
-    requires { ⌜ isStick (layerOf size (now bitmap)) first ≡ true ⌝ }
-    ensures { λ r. ⌜ r ≡ length (contourOf (layerOf size (now (bitmap .entry))) first) ⌝ }
+// How many vertices were removed, and how many runs tried.
+pub struct RunCounts {
+    pub removed: usize,
+    pub tried: usize,
+}
+
+// How many of a run's n edges its first part has.
+fn half_of(n: usize) -> usize
+    ensures { λ r. ⌜ r ≡ half n ⌝ }
 {
-    let mut e = first;
-    let mut n: usize = 0;
-    loop {
-        n += 1;
-        e = next_stick(size, bitmap, e);
-        if same_edge(e, first) {
-            break;
-        }
-    }
-    n
+    n / 2
 }
 
 // Tries the two runs of the contour of n sticks that starts at `first`, and the parts of those that do not pass. A run from e to `end` is being
@@ -57,11 +44,7 @@ fn try_runs(
     first: Edge,
     n: usize,
 ) -> RunCounts
-    requires { ⌜ Sound (layerOf size (now bitmap)) ⌝ }
-    requires { ⌜ length (now table) ≡ edgeCount size ⌝ }
-    requires { ⌜ isStick (layerOf size (now bitmap)) first ≡ true ⌝ }
-    requires { ⌜ n ≡ length (contourOf (layerOf size (now bitmap)) first) ⌝ }
-    requires { ⌜ Marked (layerOf size (now bitmap)) first (now marks) ⌝ }
+    requires { ⌜ ContourLent (layerOf size (now bitmap)) (now table) first n (now marks) ⌝ }
     ensures { λ r. ⌜ reached r (now (table .exit)) ≡ simplifyContour (layerOf size (now (bitmap .entry))) t (begun (now (table .entry))) first ⌝ }
 {
     let mut edges: [usize; ROOM] = [0; ROOM];
@@ -106,9 +89,7 @@ pub fn simplify_contour(
     t: u8,
     first: Edge,
 ) -> RunCounts
-    requires { ⌜ Sound (layerOf size (now bitmap)) ⌝ }
-    requires { ⌜ length (now table) ≡ edgeCount size ⌝ }
-    requires { ⌜ isStick (layerOf size (now bitmap)) first ≡ true ⌝ }
+    requires { ⌜ LentAt (layerOf size (now bitmap)) (now table) first ⌝ }
     ensures { λ r. ⌜ reached r (now (table .exit)) ≡ simplifyContour (layerOf size (now (bitmap .entry))) t (begun (now (table .entry))) first ⌝ }
 {
     let n = contour_length(size, bitmap, first);

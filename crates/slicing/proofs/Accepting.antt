@@ -31,7 +31,7 @@ use Rattle.simplify.specs.Call.{simplifyOf}
 use Rattle.simplify.proofs.Outcomes as Simplify
 use Rattle.simplify.proofs.Held.{simplify-keeps}
 use Rattle.sheet.specs.Written.{sheetOf, writeOf}
-use Rattle.sheet.proofs.BytesAnswered.{written-done}
+use Rattle.sheet.proofs.Answered.{written-done}
 use Rattle.slicing.specs.Slice.{wholeCommand, layerIn, sidesFit, passLimit, tolerance, thinned, bytesAfter, sliceOf, answerLimit, Result, stored, outcome}
 use Rattle.slicing.proofs.Bounds.{small-of, sheet-short}
 

@@ -29,7 +29,7 @@ use Rattle.sheet.specs.Written as Sheet
 use Rattle.sheet.specs.Written.{sheetOf}
 use Rattle.sheet.specs.declared.write.Written.{Written}
 use Rattle.sheet.specs.declared.write.Written.the-variants as Written
-use Rattle.sheet.proofs.BytesAnswered.{written-done}
+use Rattle.sheet.proofs.Answered.{written-done}
 use Rattle.slicing.specs.Slice.{sizeLetter, commandLength, wholeCommand, numberAt, sidesFit, refusedBytes, passLimit, tolerance, thinned, bytesAfter, layerBytes, sliceOf, stored, outcome}
 
 -- the table at exit is the one of the outcome

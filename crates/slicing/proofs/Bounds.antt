@@ -28,7 +28,7 @@ use Rattle.contour.proofs.Theorems.{first-sticks-only, total-length}
 use Rattle.table.specs.Entries.{entriesAnswer}
 use Rattle.drawn.proofs.FourKept.{four-sticks}
 use Rattle.sheet.specs.Written.{sheetOf}
-use Rattle.sheet.proofs.BytesCounted.{sheet-length}
+use Rattle.sheet.proofs.Counted.{sheet-length}
 use Rattle.slicing.specs.Slice.{sideLimit, sideFits, sidesFit, tableLimit, answerLimit}
 
 pub number-small : (q : Refusal) → numberOf q ≤ 15

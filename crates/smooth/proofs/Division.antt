@@ -1,7 +1,7 @@
 -- The steps of the code's signed arithmetic, on integers: the machine's quotient, which rounds toward zero, and a quotient rounded down or to
 -- the nearest; a fraction with a denominator above 0; casts. What fits a machine integer is read off by `Rattle.arith.proofs.Bounds`.
 use mathlib.Core.Path.{_≡_, refl, sym, ap, ap₂, subst, _∙_}
-use mathlib.Core.Bool.{true, false, true≢false, false≢true}
+use mathlib.Core.Bool.{Bool, true, false, true≢false, false≢true}
 use Prim.Native.Nat.{ℕ, _+_, _*_, _/_, _≤_, _<_}
 use native.Mathlib.Nat.{add-div-right, div-le-self, mul-le-mul}
 use native.Mathlib.Omega.{arith}
@@ -53,6 +53,10 @@ floor-size (negsuc a) m = omega (arith, div-le-self a m)
 -- a result with its size
 pub with-size : {r : ℤ} {B : ℕ} (z : ℤ) → r ≡ z → natAbs z ≤ B → (r ≡ z) × (natAbs r ≤ B)
 with-size z e h = (e, rw e h)
+
+-- a test on a machine term
+pub test-exact : (test : ℤ → Bool) {z : ℤ} (s : Sized z) → T (ok s) → {b : Bool} → test z ≡ b → test (pure s) ≡ b
+test-exact test s t e = sym (ap test (exact s t)) ∙ e
 
 -- a machine term that is above 0
 pub above-exact : {z : ℤ} (s : Sized z) → T (ok s) → pos 0 <ℤ pure s → pos 0 <ℤ z

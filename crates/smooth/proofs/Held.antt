@@ -1,10 +1,11 @@
 -- What a yes to Smooth's questions says, and that Smooth keeps a layer held: what it leaves passes questions 1 to 7 and 15 again, since nothing
 -- is removed; and whatever the answer is, an accepted table stays one.
-use mathlib.Core.Path.{_≡_, refl, sym, _∙_, ap, subst}
+use mathlib.Core.Path.{_≡_, refl, sym, _∙_, ap}
 use mathlib.Core.List.{List}
 use Prim.Native.Nat.{ℕ}
 use Rattle.grid.specs.Layer.{Layer}
 use Rattle.grid.specs.Questions.{firstNo, ifAllYes}
+use Rattle.grid.specs.declared.question.Refusal.{Refusal}
 use Rattle.grid.specs.declared.question.Answer.{Answer}
 use Rattle.grid.specs.declared.question.Answer.the-variants.{Yes, No}
 use Rattle.table.specs.Kept.{allKeptAnswer}
@@ -12,22 +13,17 @@ use Rattle.table.proofs.AllKept.{passes-all-kept}
 use Rattle.held.specs.Questions.{keptQuestions, Accepted}
 use Rattle.held.proofs.Holding.{all-kept-accepted}
 use Rattle.held.proofs.Asking.{kept-of-yes}
-use Rattle.smooth.specs.Smooth.{smooth, Ready}
+use Rattle.smooth.specs.Smooth.{smooth, Smoothable}
 use Rattle.smooth.specs.Call.{Outcome, refusedWith, doneWith, smoothOf}
-use Rattle.smooth.proofs.Walking.{ready-kept}
+use Rattle.smooth.proofs.Walking.{smoothable-kept}
 use Rattle.smooth.proofs.Passes.{smooth-kept}
 
 -- a yes to all questions
-pub ready-of : (L : Layer) (t : List ℕ) → firstNo (keptQuestions L t) ≡ Yes → Ready L t
-ready-of L t e =
+pub smoothable-of : (L : Layer) (t : List ℕ) → firstNo (keptQuestions L t) ≡ Yes → Smoothable L t
+smoothable-of L t e =
     let both = kept-of-yes L t e in
     let held = both .0 in
-    record {
-      sound = held .sound;
-      whole = held .exact;
-      entries = held .entries;
-      all-kept = both .1;
-    }
+    record { sound = held .sound; exact = held .exact; entries = held .entries; all-kept = both .1 }
 
 -- what comes of the call, by the answer to its questions
 pub outcome-is : (L : Layer) (limit : ℕ) (t : List ℕ) (answer : Answer) → firstNo (keptQuestions L t) ≡ answer
@@ -36,14 +32,21 @@ unfolding smoothOf
 outcome-is L limit t answer e =
     ap (λ (x : Answer). ifAllYes {A = Outcome} x (λ q place. refusedWith q place t) (doneWith (smooth L limit t))) e
 
+module _ (L : Layer) (limit : ℕ) (t : List ℕ) where
+  pub outcome-done : firstNo (keptQuestions L t) ≡ Yes → {r : Outcome} → r ≡ doneWith (smooth L limit t) → r ≡ smoothOf L limit t
+  outcome-done e is = is ∙ sym (outcome-is L limit t Yes e)
+
+  pub outcome-refused : {q : Refusal} {place : ℕ} → firstNo (keptQuestions L t) ≡ No q place → refusedWith q place t ≡ smoothOf L limit t
+  outcome-refused {q} {place} e = sym (outcome-is L limit t (No q place) e)
+
 -- a layer and a table that pass questions 1 to 7 and 15 pass them again after Smooth
 pub smooth-held : (L : Layer) (limit : ℕ) (t : List ℕ) → firstNo (keptQuestions L t) ≡ Yes
     → Accepted L (smoothOf L limit t .table) × (allKeptAnswer (L .size) (smoothOf L limit t .table) ≡ Yes)
 smooth-held L limit t e =
-    let ready = ready-of L t e in
-    let kept = smooth-kept L (ready .sound) limit t (ready-kept L t ready) in
+    let given = smoothable-of L t e in
+    let kept = smooth-kept (given .sound) limit (smoothable-kept given) in
     rw (outcome-is L limit t Yes e)
-    (all-kept-accepted L (smooth L limit t .table) (ready .sound) kept, passes-all-kept L (smooth L limit t .table) kept (ready .sound))
+    (all-kept-accepted L (smooth L limit t .table) (given .sound) kept, passes-all-kept L (smooth L limit t .table) kept (given .sound))
 
 -- and after a refusal the table is as found: whatever the answer is, an accepted table stays one
 pub smooth-keeps : (L : Layer) (limit : ℕ) (t : List ℕ) → Accepted L t → Accepted L (smoothOf L limit t .table)

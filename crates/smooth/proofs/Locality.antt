@@ -13,7 +13,7 @@ use Rattle.grid.specs.Edges.{number, isStick}
 use Rattle.step.specs.Walk.{next, prev}
 use Rattle.grid.specs.Questions.{Sound}
 use Rattle.grid.specs.declared.edge.Edge.{Edge}
-use Rattle.contour.specs.Walk.{occurrences, first, On}
+use Rattle.contour.specs.Walk.{occurrences, first, OnContour}
 use Rattle.contour.specs.Contours.{walkOf, contourOf}
 use Rattle.contour.proofs.Members.{on-next, on-prev}
 use Rattle.contour.proofs.Sticks.{laws}
@@ -40,14 +40,14 @@ module _ (L : Layer) (sound : Sound L) where
 
   -- so a pass over one contour changes no entry of another
   pub other-contour : (f g : Edge) → first (walkOf L) f ≡ true → first (walkOf L) g ≡ true → f ≢ g
-      → (s : Pass) (e : Edge) → On (walkOf L) g e → entry L (passContour L s (contourOf L f) .table) e ≡ entry L (s .table) e
+      → (s : Pass) (e : Edge) → OnContour (walkOf L) g e → entry L (passContour L s (contourOf L f) .table) e ≡ entry L (s .table) e
   other-contour f g first-f first-g differ s e on =
       passContour-elsewhere (contourOf L f) s (number (L .size) e) (off-other L sound f g first-f first-g differ e on)
 
   -- ---- what it reads
 
   module _ (f : Edge) (stick : isStick L f ≡ true) where
-    pub same-smoothed : {t u : List ℕ} → Agree L f t u → (e : Edge) → On (walkOf L) f e → smoothedAt L t e ≡ smoothedAt L u e
+    pub same-smoothed : {t u : List ℕ} → Agree L f t u → (e : Edge) → OnContour (walkOf L) f e → smoothedAt L t e ≡ smoothedAt L u e
     same-smoothed a e on =
         rw (
           same-offset L f a e on,
@@ -56,7 +56,7 @@ module _ (L : Layer) (sound : Sound L) where
         )
 
     -- a step at a stick of the contour
-    module _ (s r : Pass) (a : Agree L f (s .table) (r .table)) (e : Edge) (on : On (walkOf L) f e) where
+    module _ (s r : Pass) (a : Agree L f (s .table) (r .table)) (e : Edge) (on : OnContour (walkOf L) f e) where
       visit-agree : Agree L f (visit L s e .table) (visit L r e .table)
       visit-agree = rw (visit-table L s e, visit-table L r e) (stored-agree L sound f stick a e on _ _ (same-smoothed a e on))
 
@@ -64,7 +64,7 @@ module _ (L : Layer) (sound : Sound L) where
       visit-change = omega (arith, visit-sum L s e, visit-sum L r e, same-offset L f a e on, same-smoothed a e on)
 
     -- a pass over the contour, or a part of it: from tables that agree on the contour it gives tables that do, by the same changes
-    pub passContour-agree : (c : List Edge) → ((e : Edge) → 0 < occurrences (walkOf L) e c → On (walkOf L) f e) → (s r : Pass)
+    pub passContour-agree : (c : List Edge) → ((e : Edge) → 0 < occurrences (walkOf L) e c → OnContour (walkOf L) f e) → (s r : Pass)
         → Agree L f (s .table) (r .table)
         → Agree L f (passContour L s c .table) (passContour L r c .table) × (passContour L s c .total + r .total ≡ passContour L r c .total + s .total)
     unfolding passContour occurrences

@@ -15,7 +15,7 @@ use Rattle.chord.proofs.Homogeneous.{alongOf, along-is, coordinates, Plain, poi
 use Rattle.chord.proofs.Weights.{on→weights, weighted→on}
 use Rattle.chord.proofs.EdgePoints.{edge, on→closed, closed→on}
 use Rattle.chord.proofs.Meetings.{crossing, sides→parted, crossing-across, crossing-along, crossing-only, total-some}
-use Rattle.smooth.specs.Offset.{spread, shift, upon, Apart}
+use Rattle.smooth.specs.Offset.{spread, shift, upon, Apart, Around}
 
 -- Spread and shift as natural numbers: the neighbours' coordinates are u and w along, a and b across; the line lies at l, the stick
 -- begins at o, the old offset is k. With the neighbours β and α off the line, the size of the spread is α + β, and the shift over it is the
@@ -81,17 +81,17 @@ module _ (p q : Position) (e : Edge) (old : ℕ) where
   shift-is s = means s .1
 
   -- v lies in 0 to 256 if both neighbours lie within the stick's length along the line
-  pub meeting-inside : base e ≤ along e p → along e p ≤ base e + 256 → base e ≤ along e q → along e q ≤ base e + 256
-      → (base e * total p q e ≤ meeting p q e) × (meeting p q e ≤ (base e + 256) * total p q e)
-  meeting-inside lp hp lq hq = (
-    omega (arith, mul-le-mul-left (off e q) lp, mul-le-mul-left (off e p) lq),
-    omega (arith, mul-le-mul-left (off e q) hp, mul-le-mul-left (off e p) hq),
+  pub meeting-inside : Around p q e old → (base e * total p q e ≤ meeting p q e) × (meeting p q e ≤ (base e + 256) * total p q e)
+  meeting-inside a = (
+    omega (arith, mul-le-mul-left (off e q) (a .p-from), mul-le-mul-left (off e p) (a .q-from)),
+    omega (arith, mul-le-mul-left (off e q) (a .p-to), mul-le-mul-left (off e p) (a .q-to)),
   )
 
   -- "The segment between the neighbours meets the closed stick at v": there is such a point,
-  pub meets : Apart p q e → base e * total p q e ≤ meeting p q e → meeting p q e ≤ (base e + 256) * total p q e → (z : Point) × Meets z p q e
-  meets s lo hi =
-      let t = sides→parted p q e s in
+  pub meets : Around p q e old → (z : Point) × Meets z p q e
+  meets around =
+      let t = sides→parted p q e (around .apart) in
+      let inside = meeting-inside around in
       let n = total-some p q e t in
       let a = crossing-along p q e in
       let z : Point = pointAt (crossing p q e) n in (

@@ -9,10 +9,10 @@ use Rattle.arith.proofs.Integers.{ints, at, viaℕ, toℕ, arithℤ, natAbs-par
 use Rattle.arith.specs.Integers.{up}
 use Rattle.grid.specs.declared.edge.Edge.{Edge}
 use Rattle.chord.specs.Points.{Position}
-use Rattle.chord.specs.Crossing.{along, base, meeting, total}
+use Rattle.chord.specs.Crossing.{base, meeting, total}
 use Rattle.chord.proofs.Meetings.{sides→parted, total-some}
 use Rattle.table.proofs.Entries.{Inside}
-use Rattle.smooth.specs.Offset.{rounded, spread, shift, upon, newOffset, Apart, Around}
+use Rattle.smooth.specs.Offset.{rounded, spread, shift, upon, newOffset, Around}
 use Rattle.smooth.proofs.Rounding.{rounded-inside}
 use Rattle.smooth.proofs.Meeting.{spread-is, shift-is, meeting-inside}
 
@@ -24,41 +24,28 @@ from-base b o t m n e l = viaℕ (search (ints, at n)) (omega (arith, toℕ e (s
 as-natural : (z : ℤ) → pos 1 ≤ℤ z → z ≤ℤ pos 255 → (pos (up z) ≡ z) × (1 ≤ up z) × (up z ≤ 255)
 as-natural z l h = (omega (arithℤ, natAbs-parts z), omega (arithℤ, natAbs-parts z), omega (arithℤ, natAbs-parts z))
 
-module _ (p q : Position) (e : Edge) (old : ℕ) (apart : Apart p q e) where
+module _ {p q : Position} {e : Edge} {old : ℕ} (around : Around p q e old) where
   pub spread-some : 0 < natAbs (spread p q e)
-  spread-some = omega (arith, spread-is p q e old apart, total-some p q e (sides→parted p q e apart))
+  spread-some =
+      omega (arith, spread-is p q e old (around .apart), total-some p q e (sides→parted p q e (around .apart)))
 
-  module _ (lp : base e ≤ along e p) (hp : along e p ≤ base e + 256) (lq : base e ≤ along e q) (hq : along e q ≤ base e + 256) (inside : Inside old) where
-    new-both : (pos (newOffset p q e old) ≡ rounded old (upon (shift p q e old) (spread p q e)) (natAbs (spread p q e)))
-        × (1 ≤ newOffset p q e old)
-        × (newOffset p q e old ≤ 255)
-    unfolding newOffset
-    new-both =
-        let t = total p q e in
-        let n = upon (shift p q e old) (spread p q e) in
-        let m = meeting-inside p q e old lp hp lq hq in
-        let b = from-base (base e) old t (meeting p q e) n (shift-is p q e old apart) (m .0) in
-        let i = rounded-inside old n (natAbs (spread p q e)) spread-some (meeting p q e - base e * t)
-        (rw (spread-is p q e old apart) b) (rw (spread-is p q e old apart) (omega arith)) (inside .low) (inside .high) in
-        as-natural _ (i .0) (i .1)
+  new-both : (pos (newOffset p q e old) ≡ rounded old (upon (shift p q e old) (spread p q e)) (natAbs (spread p q e)))
+      × (1 ≤ newOffset p q e old)
+      × (newOffset p q e old ≤ 255)
+  unfolding newOffset
+  new-both =
+      let t = total p q e in
+      let n = upon (shift p q e old) (spread p q e) in
+      let d = spread-is p q e old (around .apart) in
+      let m = meeting-inside p q e old around in
+      let b = from-base (base e) old t (meeting p q e) n (shift-is p q e old (around .apart)) (m .0) in
+      let i = rounded-inside old n (natAbs (spread p q e)) spread-some (meeting p q e - base e * t)
+      (rw d b) (rw d (omega arith)) (around .low) (around .high) in
+      as-natural _ (i .0) (i .1)
 
-    -- it is the rounded fraction
-    pub new-is : pos (newOffset p q e old) ≡ rounded old (upon (shift p q e old) (spread p q e)) (natAbs (spread p q e))
-    new-is = new-both .0
+  -- it is the rounded fraction
+  pub new-is : pos (newOffset p q e old) ≡ rounded old (upon (shift p q e old) (spread p q e)) (natAbs (spread p q e))
+  new-is = new-both .0
 
-    pub new-inside : Inside (newOffset p q e old)
-    new-inside = record { low = new-both .1; high = new-both .2 }
-
--- the same of what the code asks
-module _ (p q : Position) (e : Edge) (old : ℕ) (around : Around p q e old) where
-  abbrev inside : Inside old
-  inside = record { low = around .low; high = around .high }
-
-  pub around-some : 0 < natAbs (spread p q e)
-  around-some = spread-some p q e old (around .apart)
-
-  pub around-is : pos (newOffset p q e old) ≡ rounded old (upon (shift p q e old) (spread p q e)) (natAbs (spread p q e))
-  around-is = new-is p q e old (around .apart) (around .p-from) (around .p-to) (around .q-from) (around .q-to) inside
-
-  pub around-inside : Inside (newOffset p q e old)
-  around-inside = new-inside p q e old (around .apart) (around .p-from) (around .p-to) (around .q-from) (around .q-to) inside
+  pub new-inside : Inside (newOffset p q e old)
+  new-inside = record { low = new-both .1; high = new-both .2 }

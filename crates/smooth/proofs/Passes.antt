@@ -19,7 +19,7 @@ use Rattle.contour.proofs.Outer.{foldl-flatten}
 use Rattle.contour.proofs.Contours.{walked-one}
 use Rattle.contour.proofs.Theorems.{total-length}
 use Rattle.table.proofs.AllKept.{AllKept}
-use Rattle.smooth.specs.Smooth.{Pass, visit, passContour, pass, vertexCount, isSettled, Smoothed, unsmoothed, further, until, smooth}
+use Rattle.smooth.specs.Smooth.{Pass, passed, visit, passContour, pass, vertexCount, isSettled, Smoothed, unsmoothed, further, until, smooth}
 use Rattle.smooth.proofs.Steps.{visit-kept, visit-total}
 
 -- what a pass is made of: what a loop over contours cites
@@ -28,7 +28,7 @@ module _ (L : Layer) where
   unfolding passContour
   passContour-is s c = refl
 
-  pub pass-is : (t : List ℕ) → pass L t ≡ foldl (passContour L) (record { table = t; total = 0 }) (contoursOf L)
+  pub pass-is : (t : List ℕ) → pass L t ≡ foldl (passContour L) (passed t 0) (contoursOf L)
   unfolding pass
   pass-is t = refl
 
@@ -92,54 +92,53 @@ module _ (L : Layer) (limit : ℕ) (t : List ℕ) where
       rw (smooth-is L limit t)
       λ y. omega (arith, until-passes (pass L) (vertexCount L) limit (unsmoothed (vertexCount L) t) .1 y)
 
-module _ (L : Layer) (sound : Sound L) where
-  -- ---- a list of sticks, such as a contour
+-- ---- a list of sticks, such as a contour
 
-  abbrev pub AllSticks : List Edge → Type 0
-  AllSticks c = (e : Edge) → 0 < occurrences (walkOf L) e c → isStick L e ≡ true
+abbrev pub AllSticks : Layer → List Edge → Type 0
+AllSticks L c = (e : Edge) → 0 < occurrences (walkOf L) e c → isStick L e ≡ true
 
-  head-stick : (e : Edge) (c : List Edge) → AllSticks (e ∷ c) → isStick L e ≡ true
+module _ {L : Layer} (sound : Sound L) where
+  head-stick : (e : Edge) (c : List Edge) → AllSticks L (e ∷ c) → isStick L e ≡ true
   unfolding occurrences
   head-stick e c h = h e (omega (arith, ap asNumber (laws L sound .same-self e)))
 
-  tail-sticks : (e : Edge) (c : List Edge) → AllSticks (e ∷ c) → AllSticks c
+  tail-sticks : (e : Edge) (c : List Edge) → AllSticks L (e ∷ c) → AllSticks L c
   unfolding occurrences
   tail-sticks e c h f o = h f (omega arith)
 
-  pub passContour-kept : (c : List Edge) → AllSticks c → (s : Pass) → AllKept L (s .table) → AllKept L (passContour L s c .table)
+  pub passContour-kept : (c : List Edge) → AllSticks L c → (s : Pass) → AllKept L (s .table) → AllKept L (passContour L s c .table)
   unfolding passContour
   passContour-kept [] h s kept = kept
-  passContour-kept (e ∷ c) h s kept = passContour-kept c (tail-sticks e c h) (visit L s e) (visit-kept L sound s kept e (head-stick e c h))
+  passContour-kept (e ∷ c) h s kept = passContour-kept c (tail-sticks e c h) (visit L s e) (visit-kept sound s kept e (head-stick e c h))
 
-  pub passContour-total : (c : List Edge) → AllSticks c → (s : Pass) → AllKept L (s .table) → passContour L s c .total ≤ s .total + 254 * length c
+  pub passContour-total : (c : List Edge) → AllSticks L c → (s : Pass) → AllKept L (s .table) → passContour L s c .total ≤ s .total + 254 * length c
   unfolding passContour
   passContour-total [] h s kept = omega arith
   passContour-total (e ∷ c) h s kept =
       let stick = head-stick e c h in
-      omega (arith, visit-total L sound s kept e stick, passContour-total c (tail-sticks e c h) (visit L s e) (visit-kept L sound s kept e stick))
+      omega (arith, visit-total sound s kept e stick, passContour-total c (tail-sticks e c h) (visit L s e) (visit-kept sound s kept e stick))
 
   -- ---- a pass over the layer
 
   -- it is a pass over all contours, one after the other
-  pub pass-walked : (t : List ℕ) → pass L t ≡ passContour L (record { table = t; total = 0 }) (walked (walkOf L))
+  pass-walked : (t : List ℕ) → pass L t ≡ passContour L (passed t 0) (walked (walkOf L))
   unfolding pass passContour
-  pass-walked t = foldl-flatten (visit L) (record { table = t; total = 0 }) (contoursOf L)
+  pass-walked t = foldl-flatten (visit L) (passed t 0) (contoursOf L)
 
-  walked-sticks : AllSticks (walked (walkOf L))
+  walked-sticks : AllSticks L (walked (walkOf L))
   walked-sticks = walked-one (walkOf L) (laws L sound)
 
-  pub pass-kept : (t : List ℕ) → AllKept L t → AllKept L (pass L t .table)
-  pass-kept t kept =
-      rw (pass-walked t) (passContour-kept (walked (walkOf L)) walked-sticks (record { table = t; total = 0 }) kept)
+  pub pass-kept : {t : List ℕ} → AllKept L t → AllKept L (pass L t .table)
+  pass-kept {t} kept = rw (pass-walked t) (passContour-kept (walked (walkOf L)) walked-sticks (passed t 0) kept)
 
-  pub pass-total : (t : List ℕ) → AllKept L t → pass L t .total ≤ 254 * vertexCount L
-  pass-total t kept =
+  pub pass-total : {t : List ℕ} → AllKept L t → pass L t .total ≤ 254 * vertexCount L
+  pass-total {t} kept =
       rw (pass-walked t)
-      (omega (arith, passContour-total (walked (walkOf L)) walked-sticks (record { table = t; total = 0 }) kept, total-length L sound))
+      (omega (arith, passContour-total (walked (walkOf L)) walked-sticks (passed t 0) kept, total-length L sound))
 
   -- ---- smoothing: every vertex is kept, at an offset of 1 to 255, after it as before
 
-  pub smooth-kept : (limit : ℕ) (t : List ℕ) → AllKept L t → AllKept L (smooth L limit t .table)
-  smooth-kept limit t kept =
+  pub smooth-kept : (limit : ℕ) {t : List ℕ} → AllKept L t → AllKept L (smooth L limit t .table)
+  smooth-kept limit {t} kept =
       rw (smooth-is L limit t)
-      (until-keeps (pass L) (vertexCount L) (AllKept L) pass-kept limit (unsmoothed (vertexCount L) t) kept)
+      (until-keeps (pass L) (vertexCount L) (AllKept L) (λ u h. pass-kept h) limit (unsmoothed (vertexCount L) t) kept)

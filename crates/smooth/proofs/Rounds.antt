@@ -1,90 +1,92 @@
--- What a loop over all contours cites that makes a pass: the invariant `Passing`, the bound of the total, and the next turn's.
-use mathlib.Core.Path.{_≡_, refl, sym, _∙_, ap, subst}
-use mathlib.Core.Bool.{true}
-use mathlib.Core.List.{List, [], _∷_, foldl}
-use Prim.Native.Nat.{ℕ, _+_, _≤_, _<_}
+-- What a loop over all contours cites that makes a pass: the invariant `PartPassed`, the bound of the total, and the next turn's.
+use mathlib.Core.Path.{_≡_, sym, _∙_, ap, subst}
+use mathlib.Core.Bool.{true, false}
+use mathlib.Core.List.{List, [], _∷_, map, foldl}
+use Prim.Native.Nat.{ℕ, _+_, _≤_}
 use native.Mathlib.Omega.{arith}
 use Rattle.grid.specs.Layer.{Layer}
-use Rattle.grid.specs.Edges.{edgeAt, kindStart, isStick}
 use Rattle.grid.specs.Questions.{Sound}
 use Rattle.grid.specs.declared.edge.Edge.{Edge}
-use Rattle.contour.specs.Walk.{contoursFrom}
+use Rattle.contour.specs.Walk.{firstsFrom}
 use Rattle.contour.specs.Contours.{walkOf, contourOf}
-use Rattle.contour.specs.Sets.{FirstSet, nextIn}
+use Rattle.contour.specs.Sets.{FirstSet}
+use Rattle.contour.specs.Cursors.{left, Placed, Opened, Moved}
+use Rattle.contour.specs.declared.cursor.Cursor.{Cursor}
 use Rattle.contour.proofs.Members.{on-one}
 use Rattle.contour.proofs.Sticks.{laws}
-use Rattle.contour.proofs.FirstSets.{Stop, next-stop, stop-stick, set-start, set-turn, set-end}
+use Rattle.contour.proofs.Cursors.{here-stick, here-left, none-left, fold-turn, fold-end}
 use Rattle.table.proofs.AllKept.{AllKept, passes-entries, passes-all-kept}
-use Rattle.smooth.specs.Smooth.{Pass, passed, passContour, pass, mostTotal, Ready}
+use Rattle.smooth.specs.Smooth.{Pass, passed, passContour, pass, Smoothable, PassableFrom}
 use Rattle.smooth.proofs.Walking.{visits-grow}
 use Rattle.smooth.proofs.Passes.{AllSticks, passContour-is, passContour-kept, pass-is}
 use Rattle.smooth.proofs.Sizes.{total-most}
 
-pub kept-ready : (L : Layer) → Sound L → (t : List ℕ) → AllKept L t → Ready L t
-kept-ready L sound t kept =
+pub kept-smoothable : {L : Layer} {t : List ℕ} → Sound L → AllKept L t → Smoothable L t
+kept-smoothable {L} {t} sound kept =
     record {
       sound = sound;
-      whole = kept .whole;
+      exact = kept .whole;
       entries = passes-entries L t kept sound;
       all-kept = passes-all-kept L t kept sound;
     }
 
 -- a total only grows
-pub contours-grow : (L : Layer) (cs : List (List Edge)) (s : Pass) → s .total ≤ foldl (passContour L) s cs .total
+contours-grow : (L : Layer) (cs : List (List Edge)) (s : Pass) → s .total ≤ foldl (passContour L) s cs .total
 contours-grow L [] s = omega arith
 contours-grow L (c ∷ cs) s =
     omega
     (arith, contours-grow L cs (passContour L s c), visits-grow L c s, ap (λ (p : Pass). p .total) (passContour-is L s c))
 
--- the pass over the contours that begin at edge n or after, from the table t and the total so far, gives the pass over all of them
-pub record Passing (L : Layer) (t₀ t : List ℕ) (n total : ℕ) : Type 0 where
-  pub stop : Stop L n
+-- The pass stands at a cursor with the table t and the total so far: the pass over the contours that are left gives that over all of them.
+pub record PartPassed (L : Layer) (t₀ t : List ℕ) (c : Cursor) (total : ℕ) : Type 0 where
+  pub placed : Placed L c
   pub kept : AllKept L t
-  pub left : foldl (passContour L) (passed t total) (contoursFrom (walkOf L) n) ≡ pass L t₀
+  pub still : foldl (passContour L) (passed t total) (map (contourOf L) (left L c)) ≡ pass L t₀
 
-module _ (L : Layer) (sound : Sound L) (s : List ℕ) (set : FirstSet L s) (t₀ : List ℕ) (kept₀ : AllKept L t₀) where
-  pub passing-start : (n : ℕ) → n ≡ nextIn s 0 (kindStart (L .size) true) → Passing L t₀ t₀ n 0
-  passing-start n e =
-      record {
-        stop = next-stop L sound s set 0 n (omega arith) e;
-        kept = kept₀;
-        left = set-start L sound s set (passContour L) (passed t₀ 0) n e ∙ sym (pass-is L t₀);
-      }
+pub passing-start : {L : Layer} {t : List ℕ} {c : Cursor} → Opened L c → AllKept L t → PartPassed L t t c 0
+passing-start {L} {t} o kept =
+    record {
+      placed = o .placed;
+      kept = kept;
+      still = ap (λ (l : List Edge). foldl (passContour L) (passed t 0) (map (contourOf L) l)) (o .left) ∙ sym (pass-is L t);
+    }
 
-  module _ (t : List ℕ) (n total : ℕ) (g : Passing L t₀ t n total) where
-    pub passing-end : kindStart (L .size) true ≤ n → passed t total ≡ pass L t₀
-    passing-end l = set-end L sound s set (passContour L) (passed t total) (pass L t₀) n l (g .left)
+module _ {L : Layer} {s : List ℕ} (set : FirstSet L s) {t₀ t : List ℕ} {c : Cursor} {total : ℕ} (g : PartPassed L t₀ t c total) where
+  pub passing-end : c .more ≡ false → passed t total ≡ pass L t₀
+  passing-end over =
+      fold-end (passContour L) (passed t total) (pass L t₀) (ap (map (contourOf L)) (none-left set (g .placed) over)) (g .still)
 
-    module _ (less : n < kindStart (L .size) true) where
-      abbrev first : Edge
-      first = edgeAt (L .size) n
+  module _ (more : c .more ≡ true) where
+    sticks : AllSticks L (contourOf L (c .stick))
+    sticks e o = on-one (walkOf L) (laws L (set .sound)) (c .stick) e (here-stick set (g .placed) more) o
 
-      pub passing-stick : isStick L (edgeAt (L .size) n) ≡ true
-      passing-stick = stop-stick L sound s set n (g .stop) less
+    -- the contour at the cursor can be passed: its total is no more than that of the whole pass
+    pub passing-here : AllKept L t₀ → PassableFrom L t (c .stick) total
+    passing-here kept₀ =
+        let later =
+        fold-turn (passContour L) (passed t total) (pass L t₀) (ap (map (contourOf L)) (here-left set (g .placed) more)) (g .still) in
+        record {
+          table = kept-smoothable (set .sound) (g .kept);
+          stick = here-stick set (g .placed) more;
+          fits =
+              omega (
+                arith,
+                contours-grow L (map (contourOf L) (firstsFrom (walkOf L) (c .number + 1)))
+                    (passContour L (passed t total) (contourOf L (c .stick))),
+                ap (λ (p : Pass). p .total) later,
+                total-most (set .sound) kept₀,
+              );
+        }
 
-      sticks : AllSticks L sound (contourOf L first)
-      sticks e o = on-one (walkOf L) (laws L sound) first e passing-stick o
-
-      pub passing-most : passContour L (passed t total) (contourOf L (edgeAt (L .size) n)) .total ≤ mostTotal
-      passing-most =
-          let after : ℕ = nextIn s (n + 1) (kindStart (L .size) true) in
-          let later = set-turn L sound s set (passContour L) (passed t total) (pass L t₀) n after (g .stop) less refl (g .left) in
-          omega (
-            arith,
-            contours-grow L (contoursFrom (walkOf L) after) (passContour L (passed t total) (contourOf L first)),
-            ap (λ (p : Pass). p .total) later,
-            total-most L sound t₀ kept₀,
-          )
-
-      pub passing-turn : (n′ : ℕ) → n′ ≡ nextIn s (n + 1) (kindStart (L .size) true) → (t′ : List ℕ) (total′ : ℕ)
-          → passed t′ total′ ≡ passContour L (passed t total) (contourOf L (edgeAt (L .size) n)) → Passing L t₀ t′ n′ total′
-      passing-turn n′ e t′ total′ is =
-          record {
-            stop = next-stop L sound s set (n + 1) n′ (omega arith) e;
-            kept =
-                subst (λ (p : Pass). AllKept L (p .table)) (sym is)
-                (passContour-kept L sound (contourOf L first) sticks (passed t total) (g .kept));
-            left =
-                ap (λ (p : Pass). foldl (passContour L) p (contoursFrom (walkOf L) n′)) is
-                ∙ set-turn L sound s set (passContour L) (passed t total) (pass L t₀) n n′ (g .stop) less e (g .left);
-          }
+    pub passing-turn : {c′ : Cursor} {t′ : List ℕ} {total′ : ℕ} → Moved L c c′
+        → passed t′ total′ ≡ passContour L (passed t total) (contourOf L (c .stick)) → PartPassed L t₀ t′ c′ total′
+    passing-turn {c′} m is =
+        record {
+          placed = m .placed;
+          kept =
+              subst (λ (p : Pass). AllKept L (p .table)) (sym is)
+              (passContour-kept (set .sound) (contourOf L (c .stick)) sticks (passed t total) (g .kept));
+          still =
+              ap (λ (p : Pass). foldl (passContour L) p (map (contourOf L) (left L c′))) is
+              ∙ fold-turn (passContour L) (passed t total) (pass L t₀) (ap (map (contourOf L)) (m .left)) (g .still);
+        }

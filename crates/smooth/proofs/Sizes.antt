@@ -11,8 +11,8 @@ use Rattle.table.proofs.AllKept.{AllKept}
 use Rattle.smooth.specs.Smooth.{pass, vertexCount, mostVertices, mostTotal}
 use Rattle.smooth.proofs.Passes.{pass-total}
 
-pub vertices-most : (L : Layer) → Sound L → vertexCount L ≤ mostVertices
-vertices-most L sound = omega (arith, count-le (stickAt L) (edgeCount (L .size)), edges-small (L .size) (sound .whole .sized))
+pub vertices-most : {L : Layer} → Sound L → vertexCount L ≤ mostVertices
+vertices-most {L} sound = omega (arith, count-le (stickAt L) (edgeCount (L .size)), edges-small (L .size) (sound .whole .sized))
 
-pub total-most : (L : Layer) → Sound L → (t : List ℕ) → AllKept L t → pass L t .total ≤ mostTotal
-total-most L sound t kept = omega (arith, pass-total L sound t kept, vertices-most L sound)
+pub total-most : {L : Layer} {t : List ℕ} → Sound L → AllKept L t → pass L t .total ≤ mostTotal
+total-most sound kept = omega (arith, pass-total sound kept, vertices-most sound)

@@ -23,7 +23,7 @@ use Rattle.table.proofs.Entries.{Inside}
 use Rattle.table.proofs.AllKept.{AllKept, offset-inside}
 use Rattle.table.proofs.Stores.{store-elsewhere, store-length, store-here, store-all-kept}
 use Rattle.drawn.specs.Drawn.{vertex}
-use Rattle.smooth.specs.Offset.{rounded, Apart}
+use Rattle.smooth.specs.Offset.{rounded, Around}
 use Rattle.smooth.specs.Smooth.{smoothedAt, Pass, visit}
 use Rattle.smooth.proofs.Rounding.{rounded-scaled}
 use Rattle.smooth.proofs.Meeting.{meeting-inside, meets, meets-at}
@@ -49,9 +49,9 @@ module _ (L : Layer) (s : Pass) (e : Edge) where
   unfolding visit
   visit-length = store-length L (s .table) e (Kept (smoothedAt L (s .table) e))
 
-module _ (L : Layer) (sound : Sound L) where
+module _ {L : Layer} (sound : Sound L) where
   -- the neighbours of a stick in a table whose vertices are all kept
-  module _ (t : List ℕ) (kept : AllKept L t) (e : Edge) (stick : isStick L e ≡ true) where
+  module _ {t : List ℕ} (kept : AllKept L t) (e : Edge) (stick : isStick L e ≡ true) where
     pub previous-vertex : Beside (not (upward L e)) e (vertex L t (prev L e))
     previous-vertex =
         let i = offset-inside L t kept (prev L e) (prev-stick L sound e stick) in
@@ -63,37 +63,41 @@ module _ (L : Layer) (sound : Sound L) where
         next-beside L sound e stick (offsetAt L t (next L e)) (i .low) (i .high)
 
     -- they lie strictly on different sides of the stick's line, within its length along it
-    pub neighbours-apart : Apart (vertex L t (prev L e)) (vertex L t (next L e)) e
-    neighbours-apart = beside-apart (upward L e) e (vertex L t (prev L e)) (vertex L t (next L e)) previous-vertex next-vertex
+    pub neighbours-around : Around (vertex L t (prev L e)) (vertex L t (next L e)) e (offsetAt L t e)
+    neighbours-around =
+        let inside = offset-inside L t kept e stick in
+        record {
+          apart = beside-apart (upward L e) e (vertex L t (prev L e)) (vertex L t (next L e)) previous-vertex next-vertex;
+          p-from = previous-vertex .from;
+          p-to = previous-vertex .to;
+          q-from = next-vertex .from;
+          q-to = next-vertex .to;
+          low = inside .low;
+          high = inside .high;
+        }
 
     -- so v, which is meeting / total - base, lies in 0 to 256
     pub v-inside : let p : Position = vertex L t (prev L e) in
         let q : Position = vertex L t (next L e) in
         (base e * total p q e ≤ meeting p q e) × (meeting p q e ≤ (base e + 256) * total p q e)
-    v-inside =
-        meeting-inside (vertex L t (prev L e)) (vertex L t (next L e)) e (offsetAt L t e) (previous-vertex .from) (previous-vertex .to) (next-vertex .from) (next-vertex .to)
+    v-inside = meeting-inside _ _ e (offsetAt L t e) neighbours-around
 
     -- "The segment between the neighbours meets the closed stick at v": there is a point that both have,
     pub neighbours-meet : (z : Point) × Meets z (vertex L t (prev L e)) (vertex L t (next L e)) e
-    neighbours-meet =
-        meets (vertex L t (prev L e)) (vertex L t (next L e)) e (offsetAt L t e) neighbours-apart (v-inside .0) (v-inside .1)
+    neighbours-meet = meets _ _ e (offsetAt L t e) neighbours-around
 
     -- and with each such point, its difference from the old offset along the stick being v - old, "the new offset is old + 2/5 of (v - old)",
     -- rounded
     pub smoothed-is : (z : Point) → Meets z (vertex L t (prev L e)) (vertex L t (next L e)) e
         → pos (smoothedAt L t e) ≡ rounded (offsetAt L t e) (slide z e (offsetAt L t e)) (z .d)
     smoothed-is z m =
-        let p = vertex L t (prev L e) in
-        let q = vertex L t (next L e) in
         let o = offsetAt L t e in
-        new-is p q e o neighbours-apart (previous-vertex .from) (previous-vertex .to) (next-vertex .from) (next-vertex .to) (offset-inside L t kept e stick)
-        ∙ rounded-scaled o _ _ _ _ (spread-some p q e o neighbours-apart) (z .above) (sym (meets-at p q e o neighbours-apart z m))
+        new-is neighbours-around
+        ∙ rounded-scaled o _ _ _ _ (spread-some neighbours-around) (z .above) (sym (meets-at _ _ e o (neighbours-around .apart) z m))
 
     -- so the new offset is 1 to 255
     pub smoothed-inside : Inside (smoothedAt L t e)
-    smoothed-inside =
-        new-inside (vertex L t (prev L e)) (vertex L t (next L e)) e (offsetAt L t e) neighbours-apart
-        (previous-vertex .from) (previous-vertex .to) (next-vertex .from) (next-vertex .to) (offset-inside L t kept e stick)
+    smoothed-inside = new-inside neighbours-around
 
   -- ---- a step
 
@@ -103,13 +107,13 @@ module _ (L : Layer) (sound : Sound L) where
     unfolding visit offsetAt
     visit-here =
         ap offsetIn
-        (store-here L sound (s .table) (kept .whole) e stick (Kept (smoothedAt L (s .table) e)) (smoothed-inside (s .table) kept e stick))
+        (store-here L sound (s .table) (kept .whole) e stick (Kept (smoothedAt L (s .table) e)) (smoothed-inside kept e stick))
 
     pub visit-kept : AllKept L (visit L s e .table)
     unfolding visit
     visit-kept =
-        store-all-kept L sound (s .table) (kept .whole) e stick (Kept (smoothedAt L (s .table) e)) (smoothed-inside (s .table) kept e stick) refl kept
+        store-all-kept L sound (s .table) (kept .whole) e stick (Kept (smoothedAt L (s .table) e)) (smoothed-inside kept e stick) refl kept
 
     -- the change is at most 254
     pub visit-total : visit L s e .total ≤ s .total + 254
-    visit-total = omega (arith, visit-sum L s e, offset-inside L (s .table) kept e stick, smoothed-inside (s .table) kept e stick)
+    visit-total = omega (arith, visit-sum L s e, offset-inside L (s .table) kept e stick, smoothed-inside kept e stick)

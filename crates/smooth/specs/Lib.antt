@@ -1,4 +1,5 @@
--- What the crate's contracts cite: the new offset of one vertex, passes, smoothing with a limit, and the call.
+-- What the crate's contracts cite: the new offset of one vertex, passes, smoothing with a limit, a step of the code, and the call.
 pub mod Offset
 pub mod Smooth
+pub mod Visit
 pub mod Call

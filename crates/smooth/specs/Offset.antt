@@ -4,17 +4,25 @@
 use mathlib.Core.Logic.{_⊎_}
 use Prim.Native.Nat.{ℕ, _+_, _*_, _≤_, _<_}
 use lib.IntN.{ℤ, pos, negsuc, negℤ, natAbs, _+ℤ_, _-ℤ_, _*ℤ_}
+use lib.Signed.{_<ℤ_}
 use Rattle.arith.specs.Integers.{up}
 use Rattle.arith.specs.Nearest.{nearest}
 use Rattle.grid.specs.declared.edge.Edge.{Edge}
 use Rattle.chord.specs.Points.{Position}
 use Rattle.chord.specs.Crossing.{along, across, base, line}
+use Rattle.chord.specs.Runs.{Near, NearEdge}
 
 -- "old + 2/5 of (v - old), rounded once to the nearest whole number, a half upward", where v - old is n / d with a d above 0: one rounding
 -- of the one fraction (5·d·old + 2·n) / (5·d). Its laws are in proofs/Rounding.antt.
 unfoldable pub rounded : ℕ → ℤ → ℕ → ℤ
 unfolding nearest
 rounded old n d = nearest (pos (5 * d * old) +ℤ pos 2 *ℤ n) (5 * d)
+
+-- What the code asks of a division: a numerator and a denominator of these sizes, the denominator above 0
+pub record Divisible (n d : ℤ) (N D : ℕ) : Type 0 where
+  pub n-size : natAbs n ≤ N
+  pub d-size : natAbs d ≤ D
+  pub above : pos 0 <ℤ d
 
 -- For a stick e and the positions p and q of its neighbours, with coordinates along the stick's line and across it: q's difference from p
 -- across the line, which is not 0 (proofs/Offsets.antt), and v - old multiplied by it
@@ -49,3 +57,10 @@ pub record Around (p q : Position) (e : Edge) (old : ℕ) : Type 0 where
   pub q-to : along e q ≤ base e + 256
   pub low : 1 ≤ old
   pub high : old ≤ 255
+
+-- and all of it within the largest grid, so that no product of differences overflows
+pub record Movable (p q : Position) (e : Edge) (old : ℕ) : Type 0 where
+  pub p-near : Near p
+  pub q-near : Near q
+  pub e-near : NearEdge e
+  pub around : Around p q e old

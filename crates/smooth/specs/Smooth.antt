@@ -3,17 +3,17 @@
 use mathlib.Core.Path.{_≡_}
 use mathlib.Core.Bool.{Bool, true, false}
 use mathlib.Core.List.{List, foldl}
-use Prim.Native.Nat.{ℕ, zero, suc, _+_, _*_}
+use Prim.Native.Nat.{ℕ, zero, suc, _+_, _*_, _≤_}
 use lib.Dec.{eqb, ltb}
 use lib.ListN.{length}
 use Rattle.grid.specs.Layer.{Layer}
-use Rattle.grid.specs.Edges.{edgeCount}
+use Rattle.grid.specs.Edges.{edgeCount, isStick}
 use Rattle.grid.specs.Counts.{stickCount}
 use Rattle.grid.specs.Questions.{Sound}
 use Rattle.grid.specs.declared.edge.Edge.{Edge}
 use Rattle.grid.specs.declared.question.Answer.the-variants.{Yes}
 use Rattle.step.specs.Walk.{next, prev}
-use Rattle.contour.specs.Contours.{contoursOf}
+use Rattle.contour.specs.Contours.{contourOf, contoursOf}
 use Rattle.chord.specs.Crossing.{distance}
 use Rattle.table.specs.Entries.{entriesAnswer}
 use Rattle.table.specs.Kept.{allKeptAnswer}
@@ -99,8 +99,14 @@ unfolding pass until
 smooth L limit t = until (pass L) (vertexCount L) limit (unsmoothed (vertexCount L) t)
 
 -- What the code asks of a layer and a table before it smooths: they passed questions 1 to 6, and 15
-pub record Ready (L : Layer) (t : List ℕ) : Type 0 where
+pub record Smoothable (L : Layer) (t : List ℕ) : Type 0 where
   pub sound : Sound L
-  pub whole : length t ≡ edgeCount (L .size)
+  pub exact : length t ≡ edgeCount (L .size)
   pub entries : entriesAnswer L t ≡ Yes
   pub all-kept : allKeptAnswer (L .size) t ≡ Yes
+
+-- and for a pass over the contour of f, from the total n on
+pub record PassableFrom (L : Layer) (t : List ℕ) (f : Edge) (n : ℕ) : Type 0 where
+  pub table : Smoothable L t
+  pub stick : isStick L f ≡ true
+  pub fits : passContour L (passed t n) (contourOf L f) .total ≤ mostTotal

@@ -9,16 +9,13 @@ use grid::Edge;
 ghost use mathlib.Core.Path.{_≡_};
 ghost use Prim.Native.Nat.{_^_, _≤_};
 ghost use lib.IntN.{pos, natAbs};
-ghost use lib.Signed.{_<ℤ_};
 ghost use Rattle.arith.specs.Nearest.{floorDiv, nearest};
 ghost use Rattle.chord.specs.Runs.{Near, NearEdge};
-ghost use Rattle.smooth.specs.Offset.{rounded, spread, shift, upon, newOffset, Around};
+ghost use Rattle.smooth.specs.Offset.{rounded, Divisible, spread, shift, upon, newOffset, Movable};
 
 // t / m for an m above 0, rounded down.
 fn floor_div(t: i64, m: i64) -> i64
-    requires { ⌜ natAbs t ≤ 2 ^ 44 ⌝ }
-    requires { ⌜ natAbs m ≤ 2 ^ 44 ⌝ }
-    requires { ⌜ pos 0 <ℤ m ⌝ }
+    requires { ⌜ Divisible t m (2 ^ 44) (2 ^ 44) ⌝ }
     ensures { λ r. ⌜ r ≡ floorDiv t (natAbs m) ⌝ }
     ensures { λ r. ⌜ natAbs r ≤ 2 ^ 44 ⌝ }
 {
@@ -27,9 +24,7 @@ fn floor_div(t: i64, m: i64) -> i64
 
 // n / d for a d above 0, rounded to the nearest whole number, a half upward.
 fn nearest_div(n: i64, d: i64) -> i64
-    requires { ⌜ natAbs n ≤ 2 ^ 42 ⌝ }
-    requires { ⌜ natAbs d ≤ 2 ^ 42 ⌝ }
-    requires { ⌜ pos 0 <ℤ d ⌝ }
+    requires { ⌜ Divisible n d (2 ^ 42) (2 ^ 42) ⌝ }
     ensures { λ r. ⌜ r ≡ nearest n (natAbs d) ⌝ }
     ensures { λ r. ⌜ natAbs r ≤ 2 ^ 44 ⌝ }
 {
@@ -90,9 +85,7 @@ fn signed_by(n: i64, d: i64) -> i64
 
 // old + 2/5 of n / d, rounded.
 fn rounded_of(old: u8, n: i64, d: i64) -> i64
-    requires { ⌜ natAbs n ≤ 2 ^ 40 ⌝ }
-    requires { ⌜ natAbs d ≤ 524288 ⌝ }
-    requires { ⌜ pos 0 <ℤ d ⌝ }
+    requires { ⌜ Divisible n d (2 ^ 40) 524288 ⌝ }
     ensures { λ r. ⌜ r ≡ rounded old n (natAbs d) ⌝ }
     ensures { λ r. ⌜ natAbs r ≤ 2 ^ 44 ⌝ }
 {
@@ -101,10 +94,7 @@ fn rounded_of(old: u8, n: i64, d: i64) -> i64
 
 // The new offset of the vertex at `old` of the stick e, whose neighbours are at p and q.
 pub fn new_offset(p: Position, q: Position, e: Edge, old: u8) -> u8
-    requires { ⌜ Near p ⌝ }
-    requires { ⌜ Near q ⌝ }
-    requires { ⌜ NearEdge e ⌝ }
-    requires { ⌜ Around p q e old ⌝ }
+    requires { ⌜ Movable p q e old ⌝ }
     ensures { λ r. ⌜ r ≡ newOffset p q e old ⌝ }
 {
     let d = spread_of(p, q, e);

@@ -10,7 +10,7 @@ ghost use mathlib.Core.Path.{_≡_};
 ghost use Prim.Native.Nat.{_≤_};
 ghost use Rattle.grid.specs.Layer.{layerOf, sizeOf};
 ghost use Rattle.contour.specs.Sets.{FirstSet};
-ghost use Rattle.smooth.specs.Smooth.{vertexCount, isSettled, mostVertices, mostTotal, smooth, Ready};
+ghost use Rattle.smooth.specs.Smooth.{vertexCount, isSettled, mostVertices, mostTotal, smooth, Smoothable};
 ghost use Rattle.smooth.specs.Call.{doneWith, smoothOf, outcome};
 
 // Smooth's answer: the passes made, the total of the last one and whether smoothing is settled, or refused with the question and its place.
@@ -41,7 +41,7 @@ fn smooth_until(
     vertices: usize,
     limit: usize,
 ) -> Smoothing
-    requires { ⌜ Ready (layerOf size (now bitmap)) (now table) ⌝ }
+    requires { ⌜ Smoothable (layerOf size (now bitmap)) (now table) ⌝ }
     requires { ⌜ FirstSet (layerOf size (now bitmap)) (now set) ⌝ }
     requires { ⌜ vertices ≡ vertexCount (layerOf size (now bitmap)) ⌝ }
     ensures { λ r. ⌜ outcome r (now (table .exit)) ≡ doneWith (smooth (layerOf size (now (bitmap .entry))) limit (now (table .entry))) ⌝ }

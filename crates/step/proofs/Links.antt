@@ -7,7 +7,7 @@ use lib.Dec.{T, eqb, eqb→eq}
 use Rattle.arith.specs.Booleans.{all}
 use Rattle.arith.proofs.Booleans.{at-all, and-T, beq→eq, implied}
 use Rattle.step.specs.Cells.{Corners, cut, diagonal, atInsideEnd, partner, sideIndex, sideAt, linkedTo}
-use Rattle.step.specs.Turns.{left, near, nearBy}
+use Rattle.step.specs.Turns.{insideLeft, near, nearBy}
 use Rattle.step.specs.declared.cell.Side.{Side}
 use Rattle.step.specs.declared.cell.Side.the-variants.{South, East, North, West}
 
@@ -78,20 +78,20 @@ partner-corner k s h =
     (at (λ k s. not (diagonal k) || sameSide (partner k s) (atInsideEnd k s)) tt k s) h)
 
 -- who enters by a stick with inside on the left leaves by the one linked to it, and so has inside on the left there too
-pub partner-turns : (k : Corners) (s : Side) → cut k s ≡ true → left k (partner k s) ≡ not (left k s)
+pub partner-turns : (k : Corners) (s : Side) → cut k s ≡ true → insideLeft k (partner k s) ≡ not (insideLeft k s)
 unfolding xor
 partner-turns k s h =
-    beq→eq (left k (partner k s)) (not (left k s))
-    (implied (cut k s) (Bool·beq (left k (partner k s)) (not (left k s)))
-    (at (λ k s. not (cut k s) || Bool·beq (left k (partner k s)) (not (left k s))) tt k s) h)
+    beq→eq (insideLeft k (partner k s)) (not (insideLeft k s))
+    (implied (cut k s) (Bool·beq (insideLeft k (partner k s)) (not (insideLeft k s)))
+    (at (λ k s. not (cut k s) || Bool·beq (insideLeft k (partner k s)) (not (insideLeft k s))) tt k s) h)
 
 -- of the corners at a stick one is inside, so that what they count tells which
-pub near-stick : (k : Corners) (s : Side) → cut k s ≡ true → near k s ≡ nearBy (left k s) s
+pub near-stick : (k : Corners) (s : Side) → cut k s ≡ true → near k s ≡ nearBy (insideLeft k s) s
 unfolding xor
 near-stick k s h =
-    eqb→eq (near k s) (nearBy (left k s) s)
-    (implied (cut k s) (eqb (near k s) (nearBy (left k s) s))
-    (at (λ k s. not (cut k s) || eqb (near k s) (nearBy (left k s) s)) tt k s) h)
+    eqb→eq (near k s) (nearBy (insideLeft k s) s)
+    (implied (cut k s) (eqb (near k s) (nearBy (insideLeft k s) s))
+    (at (λ k s. not (cut k s) || eqb (near k s) (nearBy (insideLeft k s) s)) tt k s) h)
 
 -- a side's number is that of its two bits in an entry of the table
 pub sideIndex-below : (s : Side) → sideIndex s < 4

@@ -13,10 +13,10 @@ use Rattle.grid.specs.Edges.{isStick, inGrid, firstEnd, secondEnd}
 use Rattle.grid.specs.Questions.{Sound, onBorder}
 use Rattle.grid.specs.declared.edge.Edge.{Edge}
 use Rattle.grid.proofs.Borders.{west, east, bottom, top}
-use Rattle.grid.proofs.Numbers.{Within, within, in-grid}
+use Rattle.grid.proofs.Numbers.{WithinGrid, within, in-grid}
 use Rattle.step.specs.Cells.{corners, cut, partner, link, edgeOf}
 use Rattle.step.specs.Walk.{upward, beside, ahead, behind, next, prev}
-use Rattle.step.specs.Turns.{left, near, nearBy, Entered, leaving}
+use Rattle.step.specs.Turns.{insideLeft, near, nearBy, Entered, leaving}
 use Rattle.step.specs.declared.cell.CellSide.{CellSide}
 use Rattle.step.specs.declared.cell.Side.{Side}
 use Rattle.step.specs.declared.cell.Side.the-variants.{South, East, North, West}
@@ -28,7 +28,7 @@ pub record InGrid (L : Layer) (p : CellSide) : Type 0 where
   pub row-inner : p .row + 1 < L .size .height
 
 -- the cell is entered by this side, with inside on the left or not, and left at stick f
-pub record Crosses (L : Layer) (p : CellSide) (inside : Bool) (f : Edge) : Type 0 where
+pub record CrossesCell (L : Layer) (p : CellSide) (inside : Bool) (f : Edge) : Type 0 where
   pub enters : Entered L (p .column) (p .row) (p .side) inside
   pub leaves : leaving L (p .column) (p .row) (p .side) ≡ f
 
@@ -92,7 +92,7 @@ module _ (L : Layer) (sound : Sound L) where
   abbrev edge : Bool → ℕ → ℕ → Edge
   edge v c r = record { vertical = v; column = c; row = r }
 
-  pub stick-within : (e : Edge) → isStick L e ≡ true → Within (L .size) e
+  pub stick-within : (e : Edge) → isStick L e ≡ true → WithinGrid (L .size) e
   unfolding isStick
   stick-within e h = within (L .size) e (and-split (inGrid (L .size) e) (xor (firstEnd L e) (secondEnd L e)) h .0)
 
@@ -153,7 +153,7 @@ module _ (L : Layer) (sound : Sound L) where
   -- inside is on the left of who enters a cell by a stick exactly where the contour does
   pub left-is : (v : Bool) (c r : ℕ) → isStick L (edge v c r) ≡ true → (upper : Bool)
       → let p : CellSide = beside (edge v c r) upper in
-      left (corners L (p .column) (p .row)) (p .side) ≡ Bool·beq (upward L (edge v c r)) upper
+      insideLeft (corners L (p .column) (p .row)) (p .side) ≡ Bool·beq (upward L (edge v c r)) upper
   left-is true c r h true = xor-not (sample L c r) (sample L c (r + 1)) (stick-differs (edge true c r) h) ∙ sym (beq-true (not (sample L c r)))
   left-is true c r h false = rw (sub-add c (inner-column c r h .0)) (not-beq (sample L c r))
   left-is false c r h true = sym (beq-true (sample L c r))
@@ -200,7 +200,7 @@ module _ (L : Layer) (sound : Sound L) where
         ∙ ap (isStick L) (edgeOf-beside (e .vertical) (e .column) (e .row) stick upper)
         ∙ stick
 
-    here-crosses : Crosses L here (Bool·beq (upward L e) upper) (edgeOf there)
+    here-crosses : CrossesCell L here (Bool·beq (upward L e) upper) (edgeOf there)
     here-crosses = record {
       enters = record {
         whole = sound .whole;
@@ -231,35 +231,35 @@ module _ (L : Layer) (sound : Sound L) where
     turned : Bool·beq (upward L (edgeOf there)) (isUpper (there .side)) ≡ not (Bool·beq (upward L e) upper)
     turned =
         sym (subst
-        (λ (p : CellSide). left (corners L (p .column) (p .row)) (p .side) ≡ Bool·beq (upward L (edgeOf there)) (isUpper (there .side)))
+        (λ (p : CellSide). insideLeft (corners L (p .column) (p .row)) (p .side) ≡ Bool·beq (upward L (edgeOf there)) (isUpper (there .side)))
         (beside-edgeOf there)
         (left-is (edgeOf there .vertical) (edgeOf there .column) (edgeOf there .row) there-stick (isUpper (there .side))))
         ∙ partner-turns (corners L (here .column) (here .row)) (here .side) here-cut
         ∙ ap not (left-is (e .vertical) (e .column) (e .row) stick upper)
 
   -- across the cell on the upper or the lower side, by the kind of the stick
-  crossings : (e : Edge) → isStick L e ≡ true → (upper inside : Bool) (f : Edge) → Crosses L (beside e upper) inside f
-      → (v : Bool) → e .vertical ≡ v → Crosses L (beside (edge v (e .column) (e .row)) upper) inside f
+  crossings : (e : Edge) → isStick L e ≡ true → (upper inside : Bool) (f : Edge) → CrossesCell L (beside e upper) inside f
+      → (v : Bool) → e .vertical ≡ v → CrossesCell L (beside (edge v (e .column) (e .row)) upper) inside f
   crossings e stick upper inside f here v kind =
-      subst (λ (w : Bool). Crosses L (beside (edge w (e .column) (e .row)) upper) inside f) kind here
+      subst (λ (w : Bool). CrossesCell L (beside (edge w (e .column) (e .row)) upper) inside f) kind here
 
   -- the walk enters the cell ahead with inside on the left and leaves it at the next stick; the walk back enters the cell behind with inside
   -- on the right and leaves it at the previous one
   pub crosses-ahead : (e : Edge) → isStick L e ≡ true → (v upper : Bool) → e .vertical ≡ v → upper ≡ upward L e
-      → Crosses L (beside (edge v (e .column) (e .row)) upper) true (next L e)
+      → CrossesCell L (beside (edge v (e .column) (e .row)) upper) true (next L e)
   unfolding next
   crosses-ahead e stick v upper kind u =
       crossings e stick upper true (next L e)
-      (subst (λ (b : Bool). Crosses L (beside e b) true (next L e)) (sym u)
-      (subst (λ (b : Bool). Crosses L (ahead L e) b (next L e)) (beq-self (upward L e)) (here-crosses e stick (upward L e)))) v kind
+      (subst (λ (b : Bool). CrossesCell L (beside e b) true (next L e)) (sym u)
+      (subst (λ (b : Bool). CrossesCell L (ahead L e) b (next L e)) (beq-self (upward L e)) (here-crosses e stick (upward L e)))) v kind
 
   pub crosses-behind : (e : Edge) → isStick L e ≡ true → (v upper : Bool) → e .vertical ≡ v → upper ≡ upward L e
-      → Crosses L (beside (edge v (e .column) (e .row)) (not upper)) false (prev L e)
+      → CrossesCell L (beside (edge v (e .column) (e .row)) (not upper)) false (prev L e)
   unfolding prev
   crosses-behind e stick v upper kind u =
       crossings e stick (not upper) false (prev L e)
-      (subst (λ (b : Bool). Crosses L (beside e (not b)) false (prev L e)) (sym u)
-      (subst (λ (b : Bool). Crosses L (behind L e) b (prev L e)) (beq-other (upward L e)) (here-crosses e stick (not (upward L e))))) v kind
+      (subst (λ (b : Bool). CrossesCell L (beside e (not b)) false (prev L e)) (sym u)
+      (subst (λ (b : Bool). CrossesCell L (behind L e) b (prev L e)) (beq-other (upward L e)) (here-crosses e stick (not (upward L e))))) v kind
 
   -- the cell that the walk entered at a stick is the one that it leaves at the next, and the other way round
   pub behind-next : (e : Edge) → isStick L e ≡ true → behind L (next L e) ≡ link L (ahead L e)

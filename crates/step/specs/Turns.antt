@@ -12,11 +12,11 @@ use Rattle.step.specs.declared.cell.Side.{Side}
 use Rattle.step.specs.declared.cell.Side.the-variants.{South, East, North, West}
 
 -- the corner on the left, seen from the side of entry
-abbrev pub left : Corners → Side → Bool
-left k South = k .sw
-left k East = k .se
-left k North = k .ne
-left k West = k .nw
+abbrev pub insideLeft : Corners → Side → Bool
+insideLeft k South = k .sw
+insideLeft k East = k .se
+insideLeft k North = k .ne
+insideLeft k West = k .nw
 
 -- what the two corners at a side count in the number of the pattern (Cells.antt: `index`)
 abbrev pub near : Corners → Side → ℕ
@@ -31,6 +31,17 @@ nearBy inside South = cond inside 1 2
 nearBy inside East = cond inside 2 8
 nearBy inside North = cond inside 8 4
 nearBy inside West = cond inside 4 1
+
+-- what the two corners across the cell from a side count, the lower or western one first
+abbrev pub acrossCount : Side → Bool → Bool → ℕ
+acrossCount South nw ne = 4 * asNumber nw + 8 * asNumber ne
+acrossCount East sw nw = asNumber sw + 4 * asNumber nw
+acrossCount North sw se = asNumber sw + 2 * asNumber se
+acrossCount West se ne = 2 * asNumber se + 8 * asNumber ne
+
+-- the number of the pattern, from the hand on which inside lies at that side and the two corners across
+abbrev pub known : Side → Bool → Bool → Bool → ℕ
+known s inside a b = nearBy inside s + acrossCount s a b
 
 -- a cell in the grid that is entered by a stick, with inside on the left or on the right
 pub record Entered (L : Layer) (c r : ℕ) (s : Side) (inside : Bool) : Type 0 where

@@ -6,3 +6,4 @@ pub mod Entries
 pub mod AllKept
 pub mod Stores
 pub mod Local
+pub mod Lent

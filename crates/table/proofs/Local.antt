@@ -15,7 +15,7 @@ use Rattle.grid.specs.Edges.{number, edgeAt, edgeCount, isStick}
 use Rattle.grid.specs.Questions.{Sound}
 use Rattle.grid.specs.declared.edge.Edge.{Edge}
 use Rattle.grid.proofs.Numbers.{number-below, edgeAt-within}
-use Rattle.contour.specs.Walk.{occurrences, first, On}
+use Rattle.contour.specs.Walk.{occurrences, first, OnContour}
 use Rattle.contour.specs.Contours.{walkOf, contourOf}
 use Rattle.contour.proofs.Orbit.{number-inj}
 use Rattle.contour.proofs.Members.{on-one}
@@ -33,11 +33,11 @@ entry L t e = getD t (number (L .size) e) 0
 pub record Agree (L : Layer) (f : Edge) (t u : List ℕ) : Type 0 where
   pub whole₁ : length t ≡ edgeCount (L .size)
   pub whole₂ : length u ≡ edgeCount (L .size)
-  pub same-entry : (e : Edge) → On (walkOf L) f e → entry L t e ≡ entry L u e
+  pub same-entry : (e : Edge) → OnContour (walkOf L) f e → entry L t e ≡ entry L u e
 
 -- the entry k is none of the contour of f
 abbrev pub Off : Layer → Edge → ℕ → Type 0
-Off L f k = (e : Edge) → On (walkOf L) f e → k ≢ number (L .size) e
+Off L f k = (e : Edge) → OnContour (walkOf L) f e → k ≢ number (L .size) e
 
 -- a step that changes no entry off the contour of f, and whose work on it depends on the entries there alone
 pub record Local (L : Layer) (f : Edge) (step : List ℕ → List ℕ) : Type 0 where
@@ -45,13 +45,13 @@ pub record Local (L : Layer) (f : Edge) (step : List ℕ → List ℕ) : Type 0 
   pub elsewhere : (t : List ℕ) (k : ℕ) → Off L f k → getD (step t) k 0 ≡ getD t k 0
   pub agrees : (t u : List ℕ) → Agree L f t u → Agree L f (step t) (step u)
 
-pub same-offset : (L : Layer) (f : Edge) {t u : List ℕ} → Agree L f t u → (e : Edge) → On (walkOf L) f e → offsetAt L t e ≡ offsetAt L u e
+pub same-offset : (L : Layer) (f : Edge) {t u : List ℕ} → Agree L f t u → (e : Edge) → OnContour (walkOf L) f e → offsetAt L t e ≡ offsetAt L u e
 unfolding offsetAt
 same-offset L f a e on = ap (λ (n : ℕ). offsetIn (entryOf n)) (a .same-entry e on)
 
 module _ (L : Layer) (sound : Sound L) where
   -- the same number stored at a stick of the contour
-  pub stored-agree : (f : Edge) → isStick L f ≡ true → {t u : List ℕ} → Agree L f t u → (e : Edge) → On (walkOf L) f e → (m n : ℕ) → m ≡ n
+  pub stored-agree : (f : Edge) → isStick L f ≡ true → {t u : List ℕ} → Agree L f t u → (e : Edge) → OnContour (walkOf L) f e → (m n : ℕ) → m ≡ n
       → Agree L f (set t (number (L .size) e) m) (set u (number (L .size) e) n)
   stored-agree f stick {t} {u} a e on m n same =
       let k : ℕ = number (L .size) e in
@@ -73,13 +73,13 @@ module _ (L : Layer) (sound : Sound L) where
 
   module _ (f g : Edge) (first-f : first (walkOf L) f ≡ true) (first-g : first (walkOf L) g ≡ true) (differ : f ≢ g) where
     -- an entry of one is none of the other
-    pub off-other : (e : Edge) → On (walkOf L) g e → Off L f (number (L .size) e)
+    pub off-other : (e : Edge) → OnContour (walkOf L) g e → Off L f (number (L .size) e)
     off-other e on h o q =
         let law = laws L sound in
         let one : isStick L e ≡ true = on-one (walkOf L) law g e (first-one (walkOf L) law g first-g) on in
         let other : isStick L h ≡ true = on-one (walkOf L) law f h (first-one (walkOf L) law f first-f) o in
         let same : e ≡ h = number-inj (walkOf L) law e h one other q in
-        differ (on-no-other L sound e f g first-f first-g (subst (On (walkOf L) f) (sym same) o) on)
+        differ (on-no-other L sound e f g first-f first-g (subst (OnContour (walkOf L) f) (sym same) o) on)
 
     -- so a step of the one leaves a table that agrees on the other
     pub agree-other : (step : List ℕ → List ℕ) → Local L f step → (t : List ℕ) → length t ≡ edgeCount (L .size) → Agree L g (step t) t
@@ -92,11 +92,11 @@ module _ (L : Layer) (sound : Sound L) where
 
   -- an entry is one of the contour of f, or off it
   on-or-off : (f : Edge) → isStick L f ≡ true → (k : ℕ) → k < edgeCount (L .size)
-      → (On (walkOf L) f (edgeAt (L .size) k) ⊎ Off L f k)
+      → (OnContour (walkOf L) f (edgeAt (L .size) k) ⊎ Off L f k)
   on-or-off f stick k below = elim (eq-zero-or-pos (occurrences (walkOf L) (edgeAt (L .size) k) (contourOf L f))) [
     | inl z ↦ inr λ e on q.
         let at : edgeAt (L .size) k ≡ e = ap (edgeAt (L .size)) q ∙ laws L sound .at-number e (on-one (walkOf L) (laws L sound) f e stick on) in
-        let here : On (walkOf L) f (edgeAt (L .size) k) = rw at on in
+        let here : OnContour (walkOf L) f (edgeAt (L .size) k) = rw at on in
         omega (arith, z, here)
     | inr o ↦ inl o
   ]
@@ -104,7 +104,7 @@ module _ (L : Layer) (sound : Sound L) where
   module _ (f g : Edge) (first-f : first (walkOf L) f ≡ true) (first-g : first (walkOf L) g ≡ true) (differ : f ≢ g) where
     -- the entries of f after both steps, in either order, are those after its own step
     on-first : (P Q : List ℕ → List ℕ) → Local L f P → Local L g Q → (t : List ℕ) → length t ≡ edgeCount (L .size) → (e : Edge)
-        → On (walkOf L) f e → entry L (Q (P t)) e ≡ entry L (P (Q t)) e
+        → OnContour (walkOf L) f e → entry L (Q (P t)) e ≡ entry L (P (Q t)) e
     on-first P Q local-f local-g t whole e on =
         let back : g ≢ f = λ q. differ (sym q) in
         let after = agree-other g f first-g first-f back Q local-g in

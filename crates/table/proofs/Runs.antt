@@ -11,13 +11,13 @@ use lib.ListN.{getD}
 use Rattle.arith.specs.Ranges.{least}
 use Rattle.arith.proofs.Ranges.{least-is, leastFrom-holds, leastFrom-below, leastFrom-le, below-add}
 use Rattle.grid.specs.Layer.{Layer}
-use Rattle.grid.specs.Edges.{edgeColumns, edgeRows, kindStart, rowStart, isStick, Marks}
+use Rattle.grid.specs.Edges.{edgeColumns, edgeRows, kindStart, rowStart, isStick, StickBits}
 use Rattle.grid.specs.Questions.{Sized}
 use Rattle.grid.proofs.Numbers.{edgeIn-at, edgeAt-kind}
 use Rattle.table.specs.Entries.{wrong, wrongAt, wrongOf, wrongIn, wrongFrom}
 
 module _ (L : Layer) (t : List ℕ) where
-  pub from-row : (v : Bool) (at r x : ℕ) → Marks L v at r x → (b : ℕ) → b < 8
+  pub from-row : (v : Bool) (at r x : ℕ) → StickBits L v at r x → (b : ℕ) → b < 8
       → wrongFrom t (rowStart (L .size) v r + 8 * at) x b ≡ wrongIn L t v r (8 * at + b)
   from-row v at r x marks b h =
       ap₂ wrong (marks .ones b h) (ap (λ (k : ℕ). getD t k 0) (add-assoc (rowStart (L .size) v r) (8 * at) b))
@@ -37,7 +37,7 @@ module _ (L : Layer) (t : List ℕ) where
 
   -- a run of eight in a row of which no entry before it is wrong: its first wrong entry is the row's, and if it has none, none up to its
   -- end is wrong
-  module _ (v : Bool) (at r x n : ℕ) (marks : Marks L v at r x) (small : n ≤ 8)
+  module _ (v : Bool) (at r x n : ℕ) (marks : StickBits L v at r x) (small : n ≤ 8)
       (before : (k : ℕ) → k < 8 * at → k < edgeColumns (L .size) v → wrongIn L t v r k ≡ false) where
     abbrev run : ℕ → Bool
     run = wrongFrom t (rowStart (L .size) v r + 8 * at) x

@@ -12,9 +12,10 @@ ghost use lib.ListN.{length, getD};
 ghost use Rattle.arith.specs.Ranges.{least};
 ghost use Rattle.grid.specs.Layer.{layerOf};
 ghost use Rattle.grid.specs.Edges.{edgeColumns, edgeRows, edgeCount};
-ghost use Rattle.grid.specs.Questions.{firstNo, Sized, Sound};
+ghost use Rattle.grid.specs.Questions.{firstNo, Sized};
 ghost use Rattle.table.specs.Entries.{tableLengthAnswer, lengthQuestions, entriesAnswer, wrongOf, wrongIn, wrongFrom};
 ghost use Rattle.table.specs.Kept.{allKeptAnswer};
+ghost use Rattle.table.specs.Lent.{Lent};
 
 fn ask_table_length(size: Size, entries: usize) -> Answer
     requires { ⌜ Sized size ⌝ }
@@ -86,8 +87,7 @@ fn first_wrong_fast(table: &[u16], start: usize, count: usize, marks: u8) -> usi
 
 // The first column of a row whose entry is wrong, or the number of columns.
 fn wrong_in_row(size: Size, bitmap: &[u8], table: &[u16], vertical: bool, row: usize) -> usize
-    requires { ⌜ Sound (layerOf size (now bitmap)) ⌝ }
-    requires { ⌜ length (now table) ≡ edgeCount size ⌝ }
+    requires { ⌜ Lent (layerOf size (now bitmap)) (now table) ⌝ }
     requires { ⌜ row < edgeRows size vertical ⌝ }
     ensures { λ r. ⌜ r ≡ least (wrongIn (layerOf size (now (bitmap .entry))) (now (table .entry)) vertical row) (edgeColumns size vertical) ⌝ }
 {
@@ -108,8 +108,7 @@ fn wrong_in_row(size: Size, bitmap: &[u8], table: &[u16], vertical: bool, row: u
 
 // The first edge of a kind, counted row by row, whose entry is wrong, or the number of edges of the kind.
 fn wrong_of_kind(size: Size, bitmap: &[u8], table: &[u16], vertical: bool) -> usize
-    requires { ⌜ Sound (layerOf size (now bitmap)) ⌝ }
-    requires { ⌜ length (now table) ≡ edgeCount size ⌝ }
+    requires { ⌜ Lent (layerOf size (now bitmap)) (now table) ⌝ }
     ensures { λ r. ⌜ r ≡ least (wrongOf (layerOf size (now (bitmap .entry))) (now (table .entry)) vertical) (edgeRows size vertical * edgeColumns size vertical) ⌝ }
 {
     let columns = grid::edge_columns(size, vertical);
@@ -127,8 +126,7 @@ fn wrong_of_kind(size: Size, bitmap: &[u8], table: &[u16], vertical: bool) -> us
 
 // Question 6.
 pub fn ask_entries(size: Size, bitmap: &[u8], table: &[u16]) -> Answer
-    requires { ⌜ Sound (layerOf size (now bitmap)) ⌝ }
-    requires { ⌜ length (now table) ≡ edgeCount size ⌝ }
+    requires { ⌜ Lent (layerOf size (now bitmap)) (now table) ⌝ }
     ensures { λ r. ⌜ r ≡ entriesAnswer (layerOf size (now (bitmap .entry))) (now (table .entry)) ⌝ }
 {
     let horizontal = grid::kind_start(size, true);

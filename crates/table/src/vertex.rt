@@ -7,19 +7,16 @@ use grid::Edge;
 use grid::Size;
 use grid::number_of;
 ghost use mathlib.Core.Path.{_≡_};
-ghost use mathlib.Core.Bool.{true};
-ghost use lib.ListN.{length, getD};
-ghost use Rattle.grid.specs.Edges.{inGrid, number, edgeCount};
-ghost use Rattle.grid.specs.Questions.{Sized};
+ghost use lib.ListN.{getD};
+ghost use Rattle.grid.specs.Edges.{number};
 ghost use Rattle.table.specs.Entries.{entryOf};
 ghost use Rattle.table.specs.Vertices.{isKept, isRemoved, offsetIn};
 ghost use Rattle.table.specs.Stores.{store};
+ghost use Rattle.table.specs.Lent.{HasEntry};
 ghost use Rattle.table.specs.declared.entry.Entry.the-variants.{Removed};
 
 pub fn entry_at(size: Size, table: &[u16], e: Edge) -> Entry
-    requires { ⌜ Sized size ⌝ }
-    requires { ⌜ length (now table) ≡ edgeCount size ⌝ }
-    requires { ⌜ inGrid size e ≡ true ⌝ }
+    requires { ⌜ HasEntry size (now table) e ⌝ }
     ensures { λ r. ⌜ r ≡ entryOf (getD (now (table .entry)) (number size e) 0) ⌝ }
 {
     let n = number_of(size, e);
@@ -61,9 +58,7 @@ pub fn offset_in(entry: Entry) -> u8
 
 // Stores an entry.
 pub fn store(size: Size, table: &mut [u16], e: Edge, entry: Entry)
-    requires { ⌜ Sized size ⌝ }
-    requires { ⌜ length (now table) ≡ edgeCount size ⌝ }
-    requires { ⌜ inGrid size e ≡ true ⌝ }
+    requires { ⌜ HasEntry size (now table) e ⌝ }
     ensures { λ _. ⌜ now (table .exit) ≡ store size (now (table .entry)) e entry ⌝ }
 {
     let n = number_of(size, e);
@@ -72,9 +67,7 @@ pub fn store(size: Size, table: &mut [u16], e: Edge, entry: Entry)
 
 // Removes a vertex, with the offset it has.
 pub fn remove(size: Size, table: &mut [u16], e: Edge)
-    requires { ⌜ Sized size ⌝ }
-    requires { ⌜ length (now table) ≡ edgeCount size ⌝ }
-    requires { ⌜ inGrid size e ≡ true ⌝ }
+    requires { ⌜ HasEntry size (now table) e ⌝ }
     ensures { λ _. ⌜ now (table .exit) ≡ store size (now (table .entry)) e (Removed (offsetIn (entryOf (getD (now (table .entry)) (number size e) 0)))) ⌝ }
 {
     let offset = offset_in(entry_at(size, table, e));

@@ -8,7 +8,7 @@ use native.Mathlib.Omega.{arith}
 use Rattle.arith.specs.Ranges.{fill}
 use Rattle.arith.proofs.Ranges.{fill-add, fill-same}
 use Rattle.grid.specs.Layer.{Layer, bit}
-use Rattle.grid.specs.Edges.{edgeColumns, edgeRows, edgeCount, kindStart, rowStart, edgeAt, isStick, Marks}
+use Rattle.grid.specs.Edges.{edgeColumns, edgeRows, edgeCount, kindStart, rowStart, edgeAt, isStick, StickBits}
 use Rattle.grid.specs.Questions.{Sized}
 use Rattle.grid.proofs.Numbers.{edgeAt-row, edges-split}
 use Rattle.trace.specs.Trace.{traced, tracedEntry, tracedBit}
@@ -17,7 +17,7 @@ module _ (L : Layer) (sized : Sized (L .size)) (v : Bool) (r : ℕ) (row : r < e
   abbrev start : ℕ
   start = rowStart (L .size) v r
 
-  run-entry : (at x b : ℕ) → Marks L v at r x → b < 8 → 8 * at + b < edgeColumns (L .size) v
+  run-entry : (at x b : ℕ) → StickBits L v at r x → b < 8 → 8 * at + b < edgeColumns (L .size) v
       → tracedBit (start + 8 * at) x (start + 8 * at + b) ≡ tracedEntry L (start + 8 * at + b)
   run-entry at x b marks h l =
       let back : start + 8 * at + b - (start + 8 * at) ≡ b = omega arith in
@@ -26,7 +26,7 @@ module _ (L : Layer) (sized : Sized (L .size)) (v : Bool) (r : ℕ) (row : r < e
       (marks .ones b h
       ∙ ap (isStick L) (sym (ap (edgeAt (L .size)) (add-assoc start (8 * at) b) ∙ edgeAt-row (L .size) sized v (8 * at + b) r l row)))
 
-  pub run-more : (at x n : ℕ) → Marks L v at r x → n ≤ 8 → 8 * at + n ≤ edgeColumns (L .size) v → (t : List ℕ)
+  pub run-more : (at x n : ℕ) → StickBits L v at r x → n ≤ 8 → 8 * at + n ≤ edgeColumns (L .size) v → (t : List ℕ)
       → fill (tracedBit (start + 8 * at) x) (start + 8 * at) n (fill (tracedEntry L) start (8 * at) t)
       ≡ fill (tracedEntry L) start (8 * at + n) t
   run-more at x n marks small fits t =

@@ -47,5 +47,5 @@ unfolding traceOf
 trace-kept L t done = by (firstNo (lengthQuestions L (length t))) refl done
   where
     by : (a : Answer) → firstNo (lengthQuestions L (length t)) ≡ a → traceOf L t .refusal ≡ 0 → Sound L × AllKept L (traceOf L t .table)
-    by Yes e done = let sound = lengths-of L (length t) e .0 in (sound, rw e (traced-kept L sound))
+    by Yes e done = let sound = lengths-of L t e .sound in (sound, rw e (traced-kept L sound))
     by (No q place) e done = absurd (omega (arith, number-some q, rw e at done))

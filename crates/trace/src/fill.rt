@@ -8,7 +8,7 @@ ghost use lib.ListN.{length};
 ghost use Rattle.arith.specs.Ranges.{fill};
 ghost use Rattle.grid.specs.Layer.{layerOf, bit};
 ghost use Rattle.grid.specs.Edges.{edgeColumns, edgeRows, edgeCount, kindStart, rowStart};
-ghost use Rattle.grid.specs.Questions.{Sound};
+ghost use Rattle.table.specs.Lent.{Lent};
 ghost use Rattle.trace.specs.Trace.{traced, tracedEntry, tracedBit};
 
 // A vertex kept at 128 for a one, no stick for a zero.
@@ -37,8 +37,7 @@ fn fill_run(table: &mut [u16], start: usize, count: usize, marks: u8)
 }
 
 fn fill_row(size: Size, bitmap: &[u8], table: &mut [u16], vertical: bool, row: usize)
-    requires { ⌜ Sound (layerOf size (now bitmap)) ⌝ }
-    requires { ⌜ length (now table) ≡ edgeCount size ⌝ }
+    requires { ⌜ Lent (layerOf size (now bitmap)) (now table) ⌝ }
     requires { ⌜ row < edgeRows size vertical ⌝ }
     ensures { λ _. ⌜ now (table .exit) ≡ fill (tracedEntry (layerOf size (now (bitmap .entry)))) (rowStart size vertical row) (edgeColumns size vertical) (now (table .entry)) ⌝ }
 {
@@ -54,8 +53,7 @@ fn fill_row(size: Size, bitmap: &[u8], table: &mut [u16], vertical: bool, row: u
 }
 
 fn fill_kind(size: Size, bitmap: &[u8], table: &mut [u16], vertical: bool)
-    requires { ⌜ Sound (layerOf size (now bitmap)) ⌝ }
-    requires { ⌜ length (now table) ≡ edgeCount size ⌝ }
+    requires { ⌜ Lent (layerOf size (now bitmap)) (now table) ⌝ }
     ensures { λ _. ⌜ now (table .exit) ≡ fill (tracedEntry (layerOf size (now (bitmap .entry)))) (kindStart size vertical) (edgeRows size vertical * edgeColumns size vertical) (now (table .entry)) ⌝ }
 {
     let rows = grid::edge_rows(size, vertical);
@@ -68,8 +66,7 @@ fn fill_kind(size: Size, bitmap: &[u8], table: &mut [u16], vertical: bool)
 
 // The whole table.
 pub fn fill_table(size: Size, bitmap: &[u8], table: &mut [u16])
-    requires { ⌜ Sound (layerOf size (now bitmap)) ⌝ }
-    requires { ⌜ length (now table) ≡ edgeCount size ⌝ }
+    requires { ⌜ Lent (layerOf size (now bitmap)) (now table) ⌝ }
     ensures { λ _. ⌜ now (table .exit) ≡ fill (tracedEntry (layerOf size (now (bitmap .entry)))) 0 (edgeCount size) (now (table .entry)) ⌝ }
 {
     fill_kind(size, bitmap, table, false);

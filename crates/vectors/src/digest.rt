@@ -4,14 +4,7 @@ ghost use mathlib.Core.Path.{_≡_};
 ghost use Prim.Native.Nat.{_<_};
 ghost use Rattle.vectors.specs.Digest.{mixed, digestOf};
 
-fn wide(x: u16) -> u64
-    ensures { λ r. ⌜ r ≡ x ⌝ }
-    ensures { λ r. ⌜ r < 65536 ⌝ }
-{
-    x as u64
-}
-
-fn mix(h: u64, x: u64) -> u64
+fn mix(h: usize, x: usize) -> usize
     requires { ⌜ h < 2147483647 ⌝ }
     requires { ⌜ x < 65536 ⌝ }
     ensures { λ r. ⌜ r ≡ mixed h x ⌝ }
@@ -19,32 +12,39 @@ fn mix(h: u64, x: u64) -> u64
     (h * 65599 + x + 1) % 2147483647
 }
 
-pub fn digest_of(table: &[u16]) -> u64
+fn mix_entry(h: usize, x: u16) -> usize
+    requires { ⌜ h < 2147483647 ⌝ }
+    ensures { λ r. ⌜ r ≡ mixed h x ⌝ }
+{
+    mix(h, x as usize)
+}
+
+pub fn digest_of(table: &[u16]) -> usize
     ensures { λ r. ⌜ r ≡ digestOf (now (table .entry)) ⌝ }
 {
-    let mut h: u64 = 1;
+    let mut h = 1;
     let mut i = 0;
     while i < table.len() {
-        h = mix(h, wide(table[i]));
+        h = mix_entry(h, table[i]);
         i += 1;
     }
     h
 }
 
-fn wide_byte(x: u8) -> u64
-    ensures { λ r. ⌜ r ≡ x ⌝ }
-    ensures { λ r. ⌜ r < 65536 ⌝ }
+fn mix_byte(h: usize, x: u8) -> usize
+    requires { ⌜ h < 2147483647 ⌝ }
+    ensures { λ r. ⌜ r ≡ mixed h x ⌝ }
 {
-    x as u64
+    mix(h, x as usize)
 }
 
-pub fn digest_bytes(bytes: &[u8]) -> u64
+pub fn digest_bytes(bytes: &[u8]) -> usize
     ensures { λ r. ⌜ r ≡ digestOf (now (bytes .entry)) ⌝ }
 {
-    let mut h: u64 = 1;
+    let mut h = 1;
     let mut i = 0;
     while i < bytes.len() {
-        h = mix(h, wide_byte(bytes[i]));
+        h = mix_byte(h, bytes[i]);
         i += 1;
     }
     h
@@ -59,7 +59,7 @@ fn bits_of(x: f64) -> u64 {
 }
 
 // A bit pattern goes in by its four pieces of 16 bits, the lowest first.
-fn mix_bits(h: u64, bits: u64) -> u64
+fn mix_bits(h: usize, bits: usize) -> usize
     requires { ⌜ h < 2147483647 ⌝ }
     ensures { λ r. ⌜ r < 2147483647 ⌝ }
 {
@@ -67,11 +67,18 @@ fn mix_bits(h: u64, bits: u64) -> u64
     mix(mix(low, bits / 4294967296 % 65536), bits / 281474976710656)
 }
 
-pub fn digest_floats(floats: &[f64]) -> u64 {
-    let mut h: u64 = 1;
+fn mix_float(h: usize, x: f64) -> usize
+    requires { ⌜ h < 2147483647 ⌝ }
+    ensures { λ r. ⌜ r < 2147483647 ⌝ }
+{
+    mix_bits(h, bits_of(x) as usize)
+}
+
+pub fn digest_floats(floats: &[f64]) -> usize {
+    let mut h = 1;
     let mut i = 0;
     while i < floats.len() {
-        h = mix_bits(h, bits_of(floats[i]));
+        h = mix_float(h, floats[i]);
         i += 1;
     }
     h

@@ -9,10 +9,4 @@ use Rattle.vectors.proofs.main.Tie as tie
 pub main-spec : {M : Type 1} → statement M
 main-spec =
     tie.close
-    (tie.spec
-    (λ c. sym (length-replicate {A = ℕ} 65536 0))
-    (λ c. sym (length-replicate {A = ℕ} 131200 0))
-    (λ c. sym (length-replicate {A = ℕ} 2095200 0))
-    (λ c. sym (length-replicate {A = ℕ} 500000 0))
-    (λ c κs. tt)
-    (λ c. tt))
+    (tie.spec (λ c. sym (length-replicate {A = ℕ} 131200 0)) (λ c. sym (length-replicate {A = ℕ} 2095200 0)) (λ c κs. tt) (λ c. tt))

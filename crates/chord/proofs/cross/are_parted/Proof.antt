@@ -4,15 +4,6 @@ use Rattle.chord.proofs.Tests.{parted-low, parted-high, parted-not}
 use Rattle.chord.proofs.cross.are_parted.Statement.{statement}
 use Rattle.chord.proofs.cross.are_parted.Tie as tie
 
-across-of-requires : tie.Need-across-of-requires
-across-of-requires c κs = search needs
-
-across-of-requires-2 : tie.Need-across-of-requires-2
-across-of-requires-2 c κs = search needs
-
-line-of-requires : tie.Need-line-of-requires
-line-of-requires c κs = search needs
-
 returns : tie.Need-returns
 returns c =
     let a = c .before .before .before .before .args in
@@ -40,4 +31,4 @@ returns-3 c =
 pub are-parted-spec : {M : Type 1} → statement M
 are-parted-spec =
     tie.close
-    (tie.spec across-of-requires across-of-requires-2 line-of-requires returns returns-2 returns-3)
+    (tie.spec (λ c κs. search needs) (λ c κs. search needs) (λ c κs. search needs) returns returns-2 returns-3)

@@ -8,28 +8,13 @@ use Rattle.chord.proofs.Tests.{crosses-not, crosses-past, crosses-short
 use Rattle.chord.proofs.cross.crosses_stick.Statement.{statement}
 use Rattle.chord.proofs.cross.crosses_stick.Tie as tie
 
-are-parted-requires : tie.Need-are-parted-requires
-are-parted-requires c κs = search needs
-
 returns : tie.Need-returns
 returns c =
     let a = c .before .before .args in
     crosses-not (a .p) (a .q) (a .e) (sym (c .before .are-parted .ensures) ∙ not-true _ (c .if1 .taken))
 
-total-of-requires : tie.Need-total-of-requires
-total-of-requires c κs = search needs
-
-meeting-of-requires : tie.Need-meeting-of-requires
-meeting-of-requires c κs = search needs
-
-base-of-requires : tie.Need-base-of-requires
-base-of-requires c κs = search needs
-
 mul-if2 : tie.Need-mul-if2
 mul-if2 c = omega (arith, mul-le-mul (c .base-of .ensures .1) (c .before .before .total-of .ensures .1))
-
-add-result : tie.Need-add-result
-add-result c = search needs
 
 mul-result : tie.Need-mul-result
 mul-result c = omega (arith, mul-le-mul (c .before .base-of .ensures .1) (c .before .before .before .total-of .ensures .1), c .before .before .before .total-of .ensures .1)
@@ -55,14 +40,5 @@ returns-3 c =
 pub crosses-stick-spec : {M : Type 1} → statement M
 crosses-stick-spec =
     tie.close
-    (tie.spec
-    are-parted-requires
-    returns
-    total-of-requires
-    meeting-of-requires
-    base-of-requires
-    mul-if2
-    add-result
-    mul-result
-    returns-2
-    returns-3)
+    (tie.spec (λ c κs. search needs) returns (λ c κs. search needs) (λ c κs. search needs) (λ c κs. search needs) mul-if2
+    (λ c. search needs) mul-result returns-2 returns-3)

@@ -6,20 +6,8 @@ use borrow.Author.Needs.{needs}
 use Rattle.chord.proofs.cross.meeting_of.Statement.{statement}
 use Rattle.chord.proofs.cross.meeting_of.Tie as tie
 
-off-line-requires : tie.Need-off-line-requires
-off-line-requires c κs = search needs
-
-along-of-requires : tie.Need-along-of-requires
-along-of-requires c κs = search needs
-
 mul-result : tie.Need-mul-result
 mul-result c = omega (arith, mul-le-mul (c .before .off-line .ensures .1) (c .along-of .ensures .1))
-
-off-line-requires-2 : tie.Need-off-line-requires-2
-off-line-requires-2 c κs = search needs
-
-along-of-requires-2 : tie.Need-along-of-requires-2
-along-of-requires-2 c κs = search needs
 
 mul-result-2 : tie.Need-mul-result-2
 mul-result-2 c = omega (arith, mul-le-mul (c .before .off-line2 .ensures .1) (c .along-of2 .ensures .1))
@@ -43,12 +31,5 @@ returns c =
 pub meeting-of-spec : {M : Type 1} → statement M
 meeting-of-spec =
     tie.close
-    (tie.spec
-    off-line-requires
-    along-of-requires
-    mul-result
-    off-line-requires-2
-    along-of-requires-2
-    mul-result-2
-    add-result
+    (tie.spec (λ c κs. search needs) (λ c κs. search needs) mul-result (λ c κs. search needs) (λ c κs. search needs) mul-result-2 add-result
     returns)

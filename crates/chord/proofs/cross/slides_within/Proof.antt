@@ -9,29 +9,8 @@ use Rattle.chord.specs.Crossing.{distance, total, slidesWithin}
 use Rattle.chord.proofs.cross.slides_within.Statement.{statement}
 use Rattle.chord.proofs.cross.slides_within.Tie as tie
 
-total-of-requires : tie.Need-total-of-requires
-total-of-requires c κs = search needs
-
-meeting-of-requires : tie.Need-meeting-of-requires
-meeting-of-requires c κs = search needs
-
-base-of-requires : tie.Need-base-of-requires
-base-of-requires c κs = search needs
-
-widen-requires : tie.Need-widen-requires
-widen-requires c κs = search needs
-
-add-old : tie.Need-add-old
-add-old c = search needs
-
 mul-old : tie.Need-mul-old
 mul-old c = omega (arith, mul-le-mul (c .before .base-of .ensures .1) (c .before .before .before .total-of .ensures .1), mul-le-mul (c .widen .ensures .1) (c .before .before .before .total-of .ensures .1))
-
-distance-of-requires : tie.Need-distance-of-requires
-distance-of-requires c κs = search needs
-
-widen-requires-2 : tie.Need-widen-requires-2
-widen-requires-2 c κs = search needs
 
 mul-result : tie.Need-mul-result
 mul-result c = omega (arith, mul-le-mul (c .widen2 .ensures .1) (c .before .before .before .before .before .total-of .ensures .1))
@@ -51,14 +30,5 @@ returns c =
 pub slides-within-spec : {M : Type 1} → statement M
 slides-within-spec =
     tie.close
-    (tie.spec
-    total-of-requires
-    meeting-of-requires
-    base-of-requires
-    widen-requires
-    add-old
-    mul-old
-    distance-of-requires
-    widen-requires-2
-    mul-result
-    returns)
+    (tie.spec (λ c κs. search needs) (λ c κs. search needs) (λ c κs. search needs) (λ c κs. search needs) (λ c. search needs) mul-old
+    (λ c κs. search needs) (λ c κs. search needs) mul-result returns)

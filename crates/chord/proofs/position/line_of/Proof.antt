@@ -5,12 +5,6 @@ use borrow.Author.Needs.{needs}
 use Rattle.chord.proofs.position.line_of.Statement.{statement}
 use Rattle.chord.proofs.position.line_of.Tie as tie
 
-mul-result : tie.Need-mul-result
-mul-result c = search needs
-
-mul-result-2 : tie.Need-mul-result-2
-mul-result-2 c = search needs
-
 returns : tie.Need-returns
 returns c = rw (c .before .if1 .taken) (refl, omega arith)
 
@@ -18,4 +12,4 @@ returns-2 : tie.Need-returns-2
 returns-2 c = rw (c .before .if1 .left) (refl, omega arith)
 
 pub line-of-spec : {M : Type 1} → statement M
-line-of-spec = tie.close (tie.spec mul-result mul-result-2 returns returns-2)
+line-of-spec = tie.close (tie.spec (λ c. search needs) (λ c. search needs) returns returns-2)

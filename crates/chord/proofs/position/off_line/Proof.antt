@@ -6,15 +6,6 @@ use Rattle.chord.specs.Crossing.{off, distance}
 use Rattle.chord.proofs.position.off_line.Statement.{statement}
 use Rattle.chord.proofs.position.off_line.Tie as tie
 
-across-of-requires : tie.Need-across-of-requires
-across-of-requires c κs = search needs
-
-line-of-requires : tie.Need-line-of-requires
-line-of-requires c κs = search needs
-
-distance-of-requires : tie.Need-distance-of-requires
-distance-of-requires c κs = search needs
-
 returns : tie.Need-returns
 unfolding off
 returns c =
@@ -23,4 +14,4 @@ returns c =
 
 pub off-line-spec : {M : Type 1} → statement M
 off-line-spec =
-    tie.close (tie.spec across-of-requires line-of-requires distance-of-requires returns)
+    tie.close (tie.spec (λ c κs. search needs) (λ c κs. search needs) (λ c κs. search needs) returns)

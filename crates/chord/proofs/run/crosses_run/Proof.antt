@@ -44,12 +44,6 @@ returns c =
     let missed = sym (c .before .crosses-stick .ensures) ∙ not-true _ (c .if1 .taken) in
     run-missed L (a .p) (a .q) (loop .at) (step .result) (loop .left) (step .ensures) (c .before .before .before .loop-test .taken) missed ∙ loop .inv .1
 
-sub-left : tie.Need-sub-left Inv-loop μ-loop
-sub-left c = search needs
-
-loop-less : tie.Need-loop-less Inv-loop μ-loop
-loop-less c = search needs
-
 loop-again : tie.Need-loop-again Inv-loop μ-loop
 loop-again c =
     let a = c .before .before .before .before .before .before .args in
@@ -71,14 +65,5 @@ returns-2 c =
 pub crosses-run-spec : {M : Type 1} → statement M
 crosses-run-spec =
     tie.close
-    (tie.spec
-    Inv-loop
-    μ-loop
-    loop-holds
-    next-stick-requires
-    crosses-stick-requires
-    returns
-    sub-left
-    loop-less
-    loop-again
-    returns-2)
+    (tie.spec Inv-loop μ-loop loop-holds next-stick-requires crosses-stick-requires returns (λ c. search needs) (λ c. search needs)
+    loop-again returns-2)

@@ -10,9 +10,6 @@ use Rattle.contour.proofs.count.count_contours.Tie as tie
 first-sticks-requires : tie.Need-first-sticks-requires
 first-sticks-requires c κs = (c .before .before .pre, empty-set)
 
-kind-start-requires : tie.Need-kind-start-requires
-kind-start-requires c κs = search needs
-
 contour-count-requires : tie.Need-contour-count-requires
 contour-count-requires c κs =
     let marked = c .before .before in
@@ -28,4 +25,4 @@ returns c =
     c .contour-count .ensures ∙ set-count (layerOf (a .size) (a .bitmap .now)) (start .pre) _ (marked .first-sticks .ensures)
 
 pub count-contours-spec : {M : Type 1} → statement M
-count-contours-spec = tie.close (tie.spec first-sticks-requires kind-start-requires contour-count-requires returns)
+count-contours-spec = tie.close (tie.spec first-sticks-requires (λ c κs. search needs) contour-count-requires returns)

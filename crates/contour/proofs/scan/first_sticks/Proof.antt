@@ -28,12 +28,6 @@ scan-row-requires c κs =
     let given = c .before .before .before .before .pre in
     (given .0, (c .before .loop-test .taken, c .before .before .loop .inv .1))
 
-add-row : tie.Need-add-row Inv-loop μ-loop
-add-row c = search needs
-
-loop-less : tie.Need-loop-less Inv-loop μ-loop
-loop-less c = search needs
-
 loop-again : tie.Need-loop-again Inv-loop μ-loop
 loop-again c = (search needs, c .scan-row .ensures)
 
@@ -48,4 +42,4 @@ returns c =
 pub first-sticks-spec : {M : Type 1} → statement M
 first-sticks-spec =
     tie.close
-    (tie.spec Inv-loop μ-loop loop-holds scan-row-requires add-row loop-less loop-again returns)
+    (tie.spec Inv-loop μ-loop loop-holds scan-row-requires (λ c. search needs) (λ c. search needs) loop-again returns)

@@ -12,8 +12,8 @@ use Rattle.grid.specs.Layer.{layerOf}
 use Rattle.grid.specs.Edges.{isStick, number}
 use Rattle.contour.specs.Walk.{rest}
 use Rattle.contour.specs.Contours.{walkOf, contourOf}
-use Rattle.contour.specs.Sets.{words, places}
-use Rattle.contour.specs.Marking.{with, markEdge}
+use Rattle.contour.specs.Sets.{words, setBits}
+use Rattle.contour.specs.Marking.{withNumber, markEdge}
 use Rattle.contour.proofs.Loop.{Due, start, due-one, due-next, turn, shorter, last}
 use Rattle.contour.proofs.Sticks.{laws}
 use Rattle.contour.proofs.Scans.{horizontal-number, place-below, mark-vertical, mark-horizontal, length-mark}
@@ -47,7 +47,7 @@ here-stick c =
 here-place : (c : tie.Then1 Inv-loop μ-loop)
     → let a = c .before .before .before .before .args in
     let e = c .before .before .loop .e in
-    (number (a .size) e ≡ e .row * (a .size .width - 1) + e .column) × (e .row * (a .size .width - 1) + e .column < places)
+    (number (a .size) e ≡ e .row * (a .size .width - 1) + e .column) × (e .row * (a .size .width - 1) + e .column < setBits)
 here-place c =
     let a = c .before .before .before .before .args in
     let L = layerOf (a .size) (a .bitmap .now) in
@@ -55,9 +55,6 @@ here-place c =
     let flat : e .vertical ≡ false = not-true _ (c .if1 .taken) in
     let n = horizontal-number (a .size) e flat in
     (n, rw n at (place-below L (c .before .before .before .before .pre .0) e (here-stick (c .before .before)) flat))
-
-sub-insert : tie.Need-sub-insert Inv-loop μ-loop
-sub-insert c = search needs
 
 mul-insert : tie.Need-mul-insert Inv-loop μ-loop
 mul-insert c = omega (arith, here-place (c .before .before .before) .1)
@@ -78,16 +75,13 @@ marked c =
     elim (c .if1 .came) [
       | inl w ↦
           w .6 ∙ w .5 .ensures
-          ∙ ap (with t) (sym (here-place (record { before = c .before; if1 = w .0 }) .0))
+          ∙ ap (withNumber t) (sym (here-place (record { before = c .before; if1 = w .0 }) .0))
           ∙ sym (mark-horizontal (a .size) t e (not-true (e .vertical) (w .0 .taken)))
       | inr w ↦ w .1 ∙ sym (mark-vertical (a .size) t e (not-false (e .vertical) (w .0 .left)))
     ]
 
 next-stick-requires : tie.Need-next-stick-requires Inv-loop μ-loop
 next-stick-requires c κs = (c .before .before .before .before .pre .0, here-stick (c .before .before))
-
-same-edge-requires : tie.Need-same-edge-requires Inv-loop μ-loop
-same-edge-requires c κs = search needs
 
 loop-less : tie.Need-loop-less Inv-loop μ-loop
 loop-less c =
@@ -130,16 +124,5 @@ returns c =
 pub mark-contour-spec : {M : Type 1} → statement M
 mark-contour-spec =
     tie.close
-    (tie.spec
-    Inv-loop
-    μ-loop
-    loop-holds
-    sub-insert
-    mul-insert
-    add-insert
-    insert-requires
-    next-stick-requires
-    same-edge-requires
-    loop-less
-    loop-again
-    returns)
+    (tie.spec Inv-loop μ-loop loop-holds (λ c. search needs) mul-insert add-insert insert-requires next-stick-requires
+    (λ c κs. search needs) loop-less loop-again returns)

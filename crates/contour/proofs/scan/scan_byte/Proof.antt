@@ -25,12 +25,6 @@ abbrev μ-loop : tie.MeasureT-loop
 stick-byte-requires : tie.Need-stick-byte-requires Inv-loop μ-loop
 stick-byte-requires c κs = let given = c .before .pre in (given .0, (given .1 .0, given .1 .1 .0))
 
-widen-requires : tie.Need-widen-requires Inv-loop μ-loop
-widen-requires c κs = search needs
-
-mul-column : tie.Need-mul-column Inv-loop μ-loop
-mul-column c = search needs
-
 loop-holds : tie.Need-loop-holds Inv-loop μ-loop
 loop-holds c =
     let a = c .before .before .before .args in
@@ -94,9 +88,6 @@ scan-stick-requires c κs =
       ),
     )
 
-shr-left : tie.Need-shr-left Inv-loop μ-loop
-shr-left c = search needs
-
 add-column : tie.Need-add-column Inv-loop μ-loop
 add-column c = omega (arith, within (c .before .before), narrow (c .before .before))
 
@@ -133,19 +124,5 @@ returns c =
 pub scan-byte-spec : {M : Type 1} → statement M
 scan-byte-spec =
     tie.close
-    (tie.spec
-    Inv-loop
-    μ-loop
-    stick-byte-requires
-    widen-requires
-    mul-column
-    loop-holds
-    lowest-bit-requires
-    add-scan-stick
-    scan-stick-requires
-    shr-left
-    add-column
-    add-column-2
-    loop-less
-    loop-again
-    returns)
+    (tie.spec Inv-loop μ-loop stick-byte-requires (λ c κs. search needs) (λ c. search needs) loop-holds lowest-bit-requires add-scan-stick
+    scan-stick-requires (λ c. search needs) add-column add-column-2 loop-less loop-again returns)

@@ -32,12 +32,6 @@ scan-byte-requires c κs =
     let given = c .before .before .before .before .before .pre in
     (given .0, (rw (c .before .before .before .stride-of .ensures) at (c .before .loop-test .taken), (given .1 .0, c .before .before .loop .inv .1)))
 
-add-at : tie.Need-add-at Inv-loop μ-loop
-add-at c = search needs
-
-loop-less : tie.Need-loop-less Inv-loop μ-loop
-loop-less c = search needs
-
 loop-again : tie.Need-loop-again Inv-loop μ-loop
 loop-again c = (search needs, c .scan-byte .ensures)
 
@@ -54,13 +48,4 @@ returns c =
 pub scan-row-spec : {M : Type 1} → statement M
 scan-row-spec =
     tie.close
-    (tie.spec
-    Inv-loop
-    μ-loop
-    stride-of-requires
-    loop-holds
-    scan-byte-requires
-    add-at
-    loop-less
-    loop-again
-    returns)
+    (tie.spec Inv-loop μ-loop stride-of-requires loop-holds scan-byte-requires (λ c. search needs) (λ c. search needs) loop-again returns)

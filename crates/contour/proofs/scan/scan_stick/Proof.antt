@@ -6,16 +6,13 @@ use native.Mathlib.Omega.{arith}
 use borrow.Author.Needs.{needs}
 use Rattle.grid.specs.Layer.{layerOf}
 use Rattle.grid.specs.declared.edge.Edge.{Edge}
-use Rattle.contour.specs.Sets.{places}
+use Rattle.contour.specs.Sets.{setBits}
 use Rattle.contour.proofs.Scans.{horizontal-number, stick-place, scan-set, scan-clear}
 use Rattle.contour.proofs.scan.scan_stick.Statement.{statement}
 use Rattle.contour.proofs.scan.scan_stick.Tie as tie
 
-sub-n : tie.Need-sub-n
-sub-n c = search needs
-
 fits : (c : tie.After-struct-known)
-    → let a = c .before .before .args in a .row * (a .size .width - 1) + a .column < places
+    → let a = c .before .before .args in a .row * (a .size .width - 1) + a .column < setBits
 fits c =
     let a = c .before .before .args in
     let given = c .before .before .pre in
@@ -32,9 +29,6 @@ contains-requires c κs = (c .before .before .before .pre .1 .1 .sized, fits (c 
 
 remove-requires : tie.Need-remove-requires
 remove-requires c κs = (c .before .before .before .before .before .before .pre .1 .1 .sized, fits (c .before .before .before .before))
-
-mark-contour-requires : tie.Need-mark-contour-requires
-mark-contour-requires c κs = search needs
 
 returns : tie.Need-returns
 returns c =
@@ -59,12 +53,4 @@ returns-2 c =
 pub scan-stick-spec : {M : Type 1} → statement M
 scan-stick-spec =
     tie.close
-    (tie.spec
-    sub-n
-    mul-n
-    add-n
-    contains-requires
-    remove-requires
-    mark-contour-requires
-    returns
-    returns-2)
+    (tie.spec (λ c. search needs) mul-n add-n contains-requires remove-requires (λ c κs. search needs) returns returns-2)

@@ -7,7 +7,7 @@ use lib.ListN.{getD}
 use Rattle.arith.specs.Ranges.{count}
 use Rattle.arith.proofs.Ranges.{count-le, count-past}
 use Rattle.grid.specs.Layer.{bit}
-use Rattle.contour.specs.Sets.{places, has}
+use Rattle.contour.specs.Sets.{setBits, has}
 use Rattle.contour.proofs.Sets.{count-word}
 use Rattle.contour.proofs.set.contour_count.Statement.{statement}
 use Rattle.contour.proofs.set.contour_count.Tie as tie
@@ -22,18 +22,6 @@ loop-holds : tie.Need-loop-holds Inv-loop μ-loop
 unfolding count
 loop-holds c = (search needs, refl)
 
-mul-loop : tie.Need-mul-loop Inv-loop μ-loop
-mul-loop c = search needs
-
-mul-ones-in : tie.Need-mul-ones-in Inv-loop μ-loop
-mul-ones-in c = search needs
-
-element-copy-out-ones-in : tie.Need-element-copy-out-ones-in Inv-loop μ-loop
-element-copy-out-ones-in c = search needs
-
-ones-in-requires : tie.Need-ones-in-requires Inv-loop μ-loop
-ones-in-requires c κs = search needs
-
 add-sum : tie.Need-add-sum Inv-loop μ-loop
 add-sum c =
     let t = c .before .before .before .before .args .set .now in
@@ -41,12 +29,6 @@ add-sum c =
     let here = c .before .before .before .loop .inv .1 in
     let more = c .ones-in .ensures in
     omega (arith, here, more, count-le (has t) (64 * i), count-le (bit (getD t i 0)) 64)
-
-add-word : tie.Need-add-word Inv-loop μ-loop
-add-word c = search needs
-
-loop-less : tie.Need-loop-less Inv-loop μ-loop
-loop-less c = search needs
 
 loop-again : tie.Need-loop-again Inv-loop μ-loop
 loop-again c =
@@ -62,21 +44,10 @@ returns c =
     let t = start .args .set .now in
     let reached = 64 * c .before .loop .word in
     c .before .loop .inv .1
-    ∙ sym (count-past (has t) reached places (omega arith) (λ n l. start .pre .1 .1 n (omega arith)))
+    ∙ sym (count-past (has t) reached setBits (omega arith) (λ n l. start .pre .1 .1 n (omega arith)))
 
 pub contour-count-spec : {M : Type 1} → statement M
 contour-count-spec =
     tie.close
-    (tie.spec
-    Inv-loop
-    μ-loop
-    loop-holds
-    mul-loop
-    mul-ones-in
-    element-copy-out-ones-in
-    ones-in-requires
-    add-sum
-    add-word
-    loop-less
-    loop-again
-    returns)
+    (tie.spec Inv-loop μ-loop loop-holds (λ c. search needs) (λ c. search needs) (λ c. search needs) (λ c κs. search needs) add-sum
+    (λ c. search needs) (λ c. search needs) loop-again returns)

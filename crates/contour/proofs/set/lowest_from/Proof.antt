@@ -4,17 +4,8 @@ use Rattle.contour.proofs.Words.{lowest-none, lowest-some}
 use Rattle.contour.proofs.set.lowest_from.Statement.{statement}
 use Rattle.contour.proofs.set.lowest_from.Tie as tie
 
-shr-left : tie.Need-shr-left
-shr-left c = search needs
-
 returns : tie.Need-returns
 returns c = lowest-none (c .before .args .x) (c .before .args .s) (c .before .pre) (c .if1 .taken)
-
-lowest-bit-requires : tie.Need-lowest-bit-requires
-lowest-bit-requires c κs = search needs
-
-add-result : tie.Need-add-result
-add-result c = search needs
 
 returns-2 : tie.Need-returns-2
 returns-2 c =
@@ -22,4 +13,4 @@ returns-2 c =
     lowest-some (a .x) (a .s) (c .lowest-bit .result) (c .before .before .fits .x .fits) (c .lowest-bit .ensures .0) (c .lowest-bit .ensures .1)
 
 pub lowest-from-spec : {M : Type 1} → statement M
-lowest-from-spec = tie.close (tie.spec shr-left returns lowest-bit-requires add-result returns-2)
+lowest-from-spec = tie.close (tie.spec (λ c. search needs) returns (λ c κs. search needs) (λ c. search needs) returns-2)

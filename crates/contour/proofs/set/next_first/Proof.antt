@@ -27,24 +27,6 @@ returns c =
     let a = c .before .args in
     sym (leastFrom-none (has (a .set .now)) (a .from) (a .end - a .from) (λ j l u. absurd (omega arith)) ∙ omega arith)
 
-mul-lowest-from : tie.Need-mul-lowest-from Inv-loop μ-loop
-mul-lowest-from c = search needs
-
-element-copy-out-lowest-from : tie.Need-element-copy-out-lowest-from Inv-loop μ-loop
-element-copy-out-lowest-from c = search needs
-
-lowest-from-requires : tie.Need-lowest-from-requires Inv-loop μ-loop
-lowest-from-requires c κs = search needs
-
-mul-at-most : tie.Need-mul-at-most Inv-loop μ-loop
-mul-at-most c = search needs
-
-add-at-most : tie.Need-add-at-most Inv-loop μ-loop
-add-at-most c = search needs
-
-at-most-requires : tie.Need-at-most-requires Inv-loop μ-loop
-at-most-requires c κs = search needs
-
 returns-2 : tie.Need-returns-2 Inv-loop μ-loop
 returns-2 c =
     let a = c .before .before .before .before .before .args in
@@ -59,9 +41,6 @@ returns-2 c =
     ∙ least-capped (has t) (a .from) (a .end) (64 * i + low) (omega arith) (omega arith) (found .1)
     (λ j l u. word-none t i s low e below j (omega arith) u)
 
-add-word : tie.Need-add-word Inv-loop μ-loop
-add-word c = search needs
-
 loop-holds : tie.Need-loop-holds Inv-loop μ-loop
 loop-holds c =
     let a = c .before .before .before .before .args in
@@ -73,27 +52,6 @@ loop-holds c =
           (omega arith)
           (omega arith),
     )
-
-mul-loop : tie.Need-mul-loop Inv-loop μ-loop
-mul-loop c = search needs
-
-mul-x : tie.Need-mul-x Inv-loop μ-loop
-mul-x c = search needs
-
-element-copy-out-x : tie.Need-element-copy-out-x Inv-loop μ-loop
-element-copy-out-x c = search needs
-
-mul-at-most-2 : tie.Need-mul-at-most-2 Inv-loop μ-loop
-mul-at-most-2 c = search needs
-
-lowest-bit-requires : tie.Need-lowest-bit-requires Inv-loop μ-loop
-lowest-bit-requires c κs = search needs
-
-add-at-most-2 : tie.Need-add-at-most-2 Inv-loop μ-loop
-add-at-most-2 c = search needs
-
-at-most-requires-2 : tie.Need-at-most-requires-2 Inv-loop μ-loop
-at-most-requires-2 c κs = search needs
 
 returns-3 : tie.Need-returns-3 Inv-loop μ-loop
 returns-3 c =
@@ -109,12 +67,6 @@ returns-3 c =
       | yes b ↦ loop .inv .2 j l b
       | no g ↦ word-none t (loop .word) 0 z e (omega arith) j (omega arith) u
     ])
-
-add-word-2 : tie.Need-add-word-2 Inv-loop μ-loop
-add-word-2 c = search needs
-
-loop-less : tie.Need-loop-less Inv-loop μ-loop
-loop-less c = search needs
 
 loop-again : tie.Need-loop-again Inv-loop μ-loop
 loop-again c =
@@ -143,28 +95,7 @@ returns-4 c =
 pub next-first-spec : {M : Type 1} → statement M
 next-first-spec =
     tie.close
-    (tie.spec
-    Inv-loop
-    μ-loop
-    returns
-    mul-lowest-from
-    element-copy-out-lowest-from
-    lowest-from-requires
-    mul-at-most
-    add-at-most
-    at-most-requires
-    returns-2
-    add-word
-    loop-holds
-    mul-loop
-    mul-x
-    element-copy-out-x
-    mul-at-most-2
-    lowest-bit-requires
-    add-at-most-2
-    at-most-requires-2
-    returns-3
-    add-word-2
-    loop-less
-    loop-again
-    returns-4)
+    (tie.spec Inv-loop μ-loop returns (λ c. search needs) (λ c. search needs) (λ c κs. search needs) (λ c. search needs) (λ c. search needs)
+    (λ c κs. search needs) returns-2 (λ c. search needs) loop-holds (λ c. search needs) (λ c. search needs) (λ c. search needs)
+    (λ c. search needs) (λ c κs. search needs) (λ c. search needs) (λ c κs. search needs) returns-3 (λ c. search needs) (λ c. search needs)
+    loop-again returns-4)

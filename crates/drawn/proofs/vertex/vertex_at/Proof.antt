@@ -7,14 +7,10 @@ use Rattle.drawn.proofs.Runs.{in-grid-near}
 use Rattle.drawn.proofs.vertex.vertex_at.Statement.{statement}
 use Rattle.drawn.proofs.vertex.vertex_at.Tie as tie
 
-entry-at-requires : tie.Need-entry-at-requires
-entry-at-requires c κs = search needs
-
-offset-in-requires : tie.Need-offset-in-requires
-offset-in-requires c κs = search needs
-
 position-of-requires : tie.Need-position-of-requires
-position-of-requires c κs = in-grid-near (c .before .before .before .args .size) (c .before .before .before .pre .0) (c .before .before .before .args .e) (c .before .before .before .pre .1 .1)
+position-of-requires c κs =
+    let start = c .before .before .before in
+    in-grid-near (start .args .size) (start .pre .sized) (start .args .e) (start .pre .in-grid)
 
 returns : tie.Need-returns
 returns c =
@@ -24,4 +20,4 @@ returns c =
 
 pub vertex-at-spec : {M : Type 1} → statement M
 vertex-at-spec =
-    tie.close (tie.spec entry-at-requires offset-in-requires position-of-requires returns)
+    tie.close (tie.spec (λ c κs. search needs) (λ c κs. search needs) position-of-requires returns)

@@ -1,7 +1,8 @@
 -- `kept_after` meets its contract. The invariant: the walk from e has passed only removed sticks, fewer than its contour has sticks.
+-- `given` and `entry` say what is known at the loop and of the stick after the step; the walk's laws are those of GapWalk.
 use mathlib.Core.Path.{_≡_, sym, ap, _∙_}
 use mathlib.Core.Bool.{true, false}
-use Prim.Native.Nat.{_-_}
+use Prim.Native.Nat.{_-_, _<_}
 use native.Mathlib.Omega.{arith}
 use borrow.Author.Needs.{needs}
 use borrow.Author.Tests.{not-true, not-false}
@@ -9,8 +10,8 @@ use Rattle.grid.specs.Layer.{layerOf}
 use Rattle.grid.specs.Edges.{edgeCount}
 use Rattle.grid.proofs.Numbers.{edges-small}
 use Rattle.step.specs.Walk.{next, prev}
-use Rattle.contour.proofs.Sticks.{stick-in}
 use Rattle.table.specs.Vertices.{isRemoved, removedAt}
+use Rattle.table.proofs.Lent.{has-entry}
 use Rattle.drawn.proofs.GapWalk.{forth, Passed, passed-start, passed-here, passed-below, passed-stick, passed-turn, passed-last}
 use Rattle.drawn.proofs.walk.kept_after.Statement.{statement}
 use Rattle.drawn.proofs.walk.kept_after.Tie as tie
@@ -21,93 +22,58 @@ Inv-loop size bitmap table at₀ gap₀ at gap = let L = layerOf size bitmap in 
 abbrev μ-loop : tie.MeasureT-loop
 μ-loop size bitmap table at₀ gap₀ at gap = edgeCount size - gap
 
-loop-holds : tie.Need-loop-holds Inv-loop μ-loop
-loop-holds c =
-    let a = c .before .before .args in
-    let given = c .before .before .pre in
-    let L = layerOf (a .size) (a .bitmap .now) in
-    let t = a .table .now in
-    passed-start (next L) (prev L) L t (forth L (given .0)) (a .e) (given .1 .1 .0)
-
 next-stick-requires : tie.Need-next-stick-requires Inv-loop μ-loop
 next-stick-requires c κs =
-    let a = c .before .before .before .args in
-    let given = c .before .before .before .pre in
-    let L = layerOf (a .size) (a .bitmap .now) in
-    let t = a .table .now in
-    (given .0, passed-here (next L) (prev L) L t (forth L (given .0)) (a .e) (given .1 .1 .0) (c .loop .at) (c .loop .gap) (c .loop .inv))
+    let given = c .before .before .before .pre .0 in
+    (given .sound, passed-here _ (forth _ (given .sound)) (given .stick) (c .loop .inv))
 
 entry-at-requires : tie.Need-entry-at-requires Inv-loop μ-loop
 entry-at-requires c κs =
-    let a = c .before .before .before .before .args in
-    let given = c .before .before .before .before .pre in
-    let L = layerOf (a .size) (a .bitmap .now) in
-    let t = a .table .now in
-    let loop = c .before .loop in
-    let step = c .next-stick in
-    let stick = passed-stick (next L) (prev L) L t (forth L (given .0)) (a .e) (given .1 .1 .0) (loop .at) (step .result) (loop .gap) (loop .inv) (step .ensures) in
-    (given .0 .whole .sized, (given .1 .0, stick-in L (step .result) stick))
+    let given = c .before .before .before .before .pre .0 in
+    has-entry (record {
+      sound = given .sound;
+      exact = given .exact;
+      stick = passed-stick _ (forth _ (given .sound)) (given .stick) (c .before .loop .inv) (c .next-stick .ensures);
+    })
 
-is-removed-requires : tie.Need-is-removed-requires Inv-loop μ-loop
-is-removed-requires c κs = search needs
+-- the removed sticks passed so far are fewer than the edges
+few : (c : tie.At-loop Inv-loop μ-loop) → c .loop .gap < edgeCount (c .before .before .before .args .size)
+few c =
+    let given = c .before .before .before .pre .0 in
+    passed-below _ (forth _ (given .sound)) (given .stick) (c .loop .inv)
 
 add-gap : tie.Need-add-gap Inv-loop μ-loop
 add-gap c =
-    let a = c .before .before .before .before .before .before .before .args in
-    let given = c .before .before .before .before .before .before .before .pre in
-    let L = layerOf (a .size) (a .bitmap .now) in
-    let t = a .table .now in
-    let loop = c .before .before .before .before .loop in
-    let small = edges-small (L .size) (given .0 .whole .sized) in
-    omega (arith, passed-below (next L) (prev L) L t (forth L (given .0)) (a .e) (given .1 .1 .0) (loop .at) (loop .gap) (loop .inv))
+    let at-loop = c .before .before .before .before in
+    omega (arith, few at-loop, edges-small _ (at-loop .before .before .before .pre .0 .sound .whole .sized))
 
 loop-less : tie.Need-loop-less Inv-loop μ-loop
-loop-less c =
-    let a = c .before .before .before .before .before .before .before .args in
-    let given = c .before .before .before .before .before .before .before .pre in
-    let L = layerOf (a .size) (a .bitmap .now) in
-    let t = a .table .now in
-    let loop = c .before .before .before .before .loop in
-    omega (arith, passed-below (next L) (prev L) L t (forth L (given .0)) (a .e) (given .1 .1 .0) (loop .at) (loop .gap) (loop .inv))
+loop-less c = omega (arith, few (c .before .before .before .before))
+
+-- what the entry says of the stick that the walk has come to
+removed-is : (c : tie.After-is-removed Inv-loop μ-loop)
+    → let a = c .before .before .before .before .before .before .args in
+    removedAt (layerOf (a .size) (a .bitmap .now)) (a .table .now) (c .before .before .next-stick .result) ≡ c .is-removed .result
+unfolding removedAt
+removed-is c = sym (c .is-removed .ensures ∙ ap isRemoved (c .before .entry-at .ensures))
 
 loop-again : tie.Need-loop-again Inv-loop μ-loop
-unfolding removedAt
 loop-again c =
-    let a = c .before .before .before .before .before .before .before .args in
-    let given = c .before .before .before .before .before .before .before .pre in
-    let L = layerOf (a .size) (a .bitmap .now) in
-    let t = a .table .now in
-    let loop = c .before .before .before .before .loop in
-    let step = c .before .before .before .next-stick in
-    let entry = sym (ap isRemoved (c .before .before .entry-at .ensures)) ∙ sym (c .before .is-removed .ensures) in
-    let removed : removedAt L t (step .result) ≡ true = entry ∙ not-false _ (c .if1 .left) in
-    passed-turn (next L) (prev L) L t (forth L (given .0)) (a .e) (given .1 .1 .0) (loop .at) (step .result) (loop .gap) (loop .inv) (step .ensures)
-    (given .1 .1 .1) removed
+    let stepped = c .before .before .before in
+    let start = stepped .before .before .before .before in
+    let given = start .pre .0 in
+    passed-turn _ (forth _ (given .sound)) (given .stick) (stepped .before .loop .inv) (stepped .next-stick .ensures) (start .pre .1)
+    (removed-is (c .before) ∙ not-false _ (c .if1 .left))
 
 returns : tie.Need-returns Inv-loop μ-loop
-unfolding removedAt
 returns c =
-    let a = c .before .before .before .before .before .before .before .args in
-    let given = c .before .before .before .before .before .before .before .pre in
-    let L = layerOf (a .size) (a .bitmap .now) in
-    let t = a .table .now in
-    let loop = c .before .before .before .before .loop in
-    let step = c .before .before .before .next-stick in
-    let entry = sym (ap isRemoved (c .before .before .entry-at .ensures)) ∙ sym (c .before .is-removed .ensures) in
-    let stays : removedAt L t (step .result) ≡ false = entry ∙ not-true _ (c .if1 .taken) in
-    passed-last (next L) (prev L) L t (forth L (given .0)) (a .e) (given .1 .1 .0) (loop .at) (step .result) (loop .gap) (loop .inv) (step .ensures) stays
+    let stepped = c .before .before .before in
+    let given = stepped .before .before .before .before .pre .0 in
+    passed-last _ (forth _ (given .sound)) (given .stick) (stepped .before .loop .inv) (stepped .next-stick .ensures)
+    (removed-is (c .before) ∙ not-true _ (c .if1 .taken))
 
 pub kept-after-spec : {M : Type 1} → statement M
 kept-after-spec =
     tie.close
-    (tie.spec
-    Inv-loop
-    μ-loop
-    loop-holds
-    next-stick-requires
-    entry-at-requires
-    is-removed-requires
-    add-gap
-    loop-less
-    loop-again
-    returns)
+    (tie.spec Inv-loop μ-loop (λ c. let given = c .before .before .pre .0 in passed-start _ (forth _ (given .sound)) (given .stick))
+    next-stick-requires entry-at-requires (λ c κs. search needs) add-gap loop-less loop-again returns)

@@ -20,9 +20,6 @@ abbrev μ-loop : tie.MeasureT-loop
 loop-holds : tie.Need-loop-holds Inv-loop μ-loop
 loop-holds c = (omega arith, rw zero-mul (count-zero _))
 
-inside-in-row-requires : tie.Need-inside-in-row-requires Inv-loop μ-loop
-inside-in-row-requires c κs = search needs
-
 add-total : tie.Need-add-total Inv-loop μ-loop
 add-total c =
     let start = c .before .before .before .before in
@@ -35,12 +32,6 @@ add-total c =
     let f = c .inside-in-row .ensures in
     let g = mul-le-mul {n₁ = loop .row} {m₁ = a .size .width} {n₂ = 1024} {m₂ = 1024} (omega arith) (omega arith) in
     omega (arith, count-le (sampleAt L) (loop .row * a .size .width), count-le (sampleIn L (loop .row)) (a .size .width))
-
-add-row : tie.Need-add-row Inv-loop μ-loop
-add-row c = search needs
-
-loop-less : tie.Need-loop-less Inv-loop μ-loop
-loop-less c = search needs
 
 loop-again : tie.Need-loop-again Inv-loop μ-loop
 loop-again c =
@@ -62,13 +53,4 @@ returns c =
 pub inside-count-spec : {M : Type 1} → statement M
 inside-count-spec =
     tie.close
-    (tie.spec
-    Inv-loop
-    μ-loop
-    loop-holds
-    inside-in-row-requires
-    add-total
-    add-row
-    loop-less
-    loop-again
-    returns)
+    (tie.spec Inv-loop μ-loop loop-holds (λ c κs. search needs) add-total (λ c. search needs) (λ c. search needs) loop-again returns)

@@ -12,12 +12,6 @@ use Rattle.grid.proofs.Numbers.{edges-small}
 use Rattle.grid.proofs.count.stick_count.Statement.{statement}
 use Rattle.grid.proofs.count.stick_count.Tie as tie
 
-sticks-of-kind-requires : tie.Need-sticks-of-kind-requires
-sticks-of-kind-requires c κs = search needs
-
-sticks-of-kind-requires-2 : tie.Need-sticks-of-kind-requires-2
-sticks-of-kind-requires-2 c κs = search needs
-
 total : (c : tie.After-sticks-of-kind2)
     → c .before .sticks-of-kind .result + c .sticks-of-kind2 .result
     ≡ count (stickAt (layerOf (c .before .before .before .args .size) (c .before .before .before .args .bitmap .now))) (edgeCount (c .before .before .before .args .size))
@@ -38,4 +32,4 @@ returns c = total c
 
 pub stick-count-spec : {M : Type 1} → statement M
 stick-count-spec =
-    tie.close (tie.spec sticks-of-kind-requires sticks-of-kind-requires-2 add-result returns)
+    tie.close (tie.spec (λ c κs. search needs) (λ c κs. search needs) add-result returns)

@@ -17,9 +17,6 @@ Inv-loop size bitmap vertical row bytes total₀ at₀ total at = (at ≤ stride
 abbrev μ-loop : tie.MeasureT-loop
 μ-loop size bitmap vertical row bytes total₀ at₀ total at = bytes - at
 
-stride-of-requires : tie.Need-stride-of-requires Inv-loop μ-loop
-stride-of-requires c κs = search needs
-
 loop-holds : tie.Need-loop-holds Inv-loop μ-loop
 loop-holds c = (omega arith, count-zero _)
 
@@ -27,9 +24,6 @@ stick-byte-requires : tie.Need-stick-byte-requires Inv-loop μ-loop
 stick-byte-requires c κs =
     let start = c .before .before .before .before in
     let e = c .before .before .stride-of .ensures in (start .pre .0, (omega arith, start .pre .1))
-
-ones-of-requires : tie.Need-ones-of-requires Inv-loop μ-loop
-ones-of-requires c κs = search needs
 
 add-total : tie.Need-add-total Inv-loop μ-loop
 add-total c =
@@ -39,12 +33,6 @@ add-total c =
     let L = layerOf (a .size) (a .bitmap .now) in
     let given = start .pre in
     let e = loop .inv .1 in omega (arith, count-le (stickIn L (a .vertical) (a .row)) (8 * loop .at), c .ones-of .ensures .1)
-
-add-at : tie.Need-add-at Inv-loop μ-loop
-add-at c = search needs
-
-loop-less : tie.Need-loop-less Inv-loop μ-loop
-loop-less c = search needs
 
 loop-again : tie.Need-loop-again Inv-loop μ-loop
 loop-again c =
@@ -73,15 +61,5 @@ returns c =
 pub sticks-in-row-spec : {M : Type 1} → statement M
 sticks-in-row-spec =
     tie.close
-    (tie.spec
-    Inv-loop
-    μ-loop
-    stride-of-requires
-    loop-holds
-    stick-byte-requires
-    ones-of-requires
-    add-total
-    add-at
-    loop-less
-    loop-again
-    returns)
+    (tie.spec Inv-loop μ-loop (λ c κs. search needs) loop-holds stick-byte-requires (λ c κs. search needs) add-total (λ c. search needs)
+    (λ c. search needs) loop-again returns)

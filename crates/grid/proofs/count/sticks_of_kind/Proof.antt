@@ -19,9 +19,6 @@ Inv-loop size bitmap vertical rows total₀ row₀ total row = (row ≤ edgeRows
 abbrev μ-loop : tie.MeasureT-loop
 μ-loop size bitmap vertical rows total₀ row₀ total row = rows - row
 
-edge-rows-requires : tie.Need-edge-rows-requires Inv-loop μ-loop
-edge-rows-requires c κs = search needs
-
 loop-holds : tie.Need-loop-holds Inv-loop μ-loop
 loop-holds c = (omega arith, rw zero-mul (count-zero _))
 
@@ -43,12 +40,6 @@ add-total c =
     let g = mul-le-mul {n₁ = loop .row} {m₁ = n} {n₂ = 1024} {m₂ = 1024}
     (let less = row-below-height (a .size) sized (a .vertical) (loop .row) (let r = c .before .before .before .edge-rows .ensures in omega arith) in omega arith) narrow in
     omega (arith, count-le (stickOf L (a .vertical)) (loop .row * n), count-le (stickIn L (a .vertical) (loop .row)) n)
-
-add-row : tie.Need-add-row Inv-loop μ-loop
-add-row c = search needs
-
-loop-less : tie.Need-loop-less Inv-loop μ-loop
-loop-less c = search needs
 
 loop-again : tie.Need-loop-again Inv-loop μ-loop
 loop-again c =
@@ -73,14 +64,5 @@ returns c =
 pub sticks-of-kind-spec : {M : Type 1} → statement M
 sticks-of-kind-spec =
     tie.close
-    (tie.spec
-    Inv-loop
-    μ-loop
-    edge-rows-requires
-    loop-holds
-    sticks-in-row-requires
-    add-total
-    add-row
-    loop-less
-    loop-again
-    returns)
+    (tie.spec Inv-loop μ-loop (λ c κs. search needs) loop-holds sticks-in-row-requires add-total (λ c. search needs) (λ c. search needs)
+    loop-again returns)

@@ -6,15 +6,9 @@ use Rattle.grid.proofs.Numbers.{edges-small}
 use Rattle.grid.proofs.edge.edge_count.Statement.{statement}
 use Rattle.grid.proofs.edge.edge_count.Tie as tie
 
-sub-result : tie.Need-sub-result
-sub-result c = search needs
-
 mul-result : tie.Need-mul-result
 unfolding edgeCount
 mul-result c = omega (arith, edges-small (c .before .before .args .size) (c .before .before .pre))
-
-sub-result-2 : tie.Need-sub-result-2
-sub-result-2 c = search needs
 
 mul-result-2 : tie.Need-mul-result-2
 unfolding edgeCount
@@ -32,4 +26,4 @@ returns c = search needs
 
 pub edge-count-spec : {M : Type 1} → statement M
 edge-count-spec =
-    tie.close (tie.spec sub-result mul-result sub-result-2 mul-result-2 add-result returns)
+    tie.close (tie.spec (λ c. search needs) mul-result (λ c. search needs) mul-result-2 add-result returns)

@@ -4,9 +4,6 @@ use Rattle.grid.proofs.Numbers.{columns-pos}
 use Rattle.grid.proofs.edge.edge_in.Statement.{statement}
 use Rattle.grid.proofs.edge.edge_in.Tie as tie
 
-edge-columns-requires : tie.Need-edge-columns-requires
-edge-columns-requires c κs = search needs
-
 rem-t5 : tie.Need-rem-t5
 rem-t5 c = rw (c .edge-columns .ensures) (columns-pos (c .before .args .size) (c .before .pre) (c .before .args .vertical))
 
@@ -17,4 +14,4 @@ returns : tie.Need-returns
 returns c = rw (c .edge-columns .ensures)
 
 pub edge-in-spec : {M : Type 1} → statement M
-edge-in-spec = tie.close (tie.spec edge-columns-requires rem-t5 div-t6 returns)
+edge-in-spec = tie.close (tie.spec (λ c κs. search needs) rem-t5 div-t6 returns)

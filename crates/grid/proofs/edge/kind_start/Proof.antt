@@ -6,9 +6,6 @@ use Rattle.grid.proofs.Numbers.{kind-below, edges-small}
 use Rattle.grid.proofs.edge.kind_start.Statement.{statement}
 use Rattle.grid.proofs.edge.kind_start.Tie as tie
 
-sub-result : tie.Need-sub-result
-sub-result c = search needs
-
 mul-result : tie.Need-mul-result
 mul-result c =
     let size = c .before .before .before .args .size in
@@ -18,8 +15,5 @@ mul-result c =
 returns : tie.Need-returns
 returns c = rw (c .before .before .if1 .taken)
 
-returns-2 : tie.Need-returns-2
-returns-2 c = search needs
-
 pub kind-start-spec : {M : Type 1} → statement M
-kind-start-spec = tie.close (tie.spec sub-result mul-result returns returns-2)
+kind-start-spec = tie.close (tie.spec (λ c. search needs) mul-result returns (λ c. search needs))

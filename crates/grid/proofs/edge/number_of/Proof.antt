@@ -8,12 +8,6 @@ use Rattle.grid.proofs.Numbers.{number-below, edges-small}
 use Rattle.grid.proofs.edge.number_of.Statement.{statement}
 use Rattle.grid.proofs.edge.number_of.Tie as tie
 
-kind-start-requires : tie.Need-kind-start-requires
-kind-start-requires c κs = search needs
-
-edge-columns-requires : tie.Need-edge-columns-requires
-edge-columns-requires c κs = search needs
-
 is-number : (c : tie.After-edge-columns)
     → c .before .kind-start .result
     + (c .before .before .args .e .row * c .edge-columns .result + c .before .before .args .e .column)
@@ -42,4 +36,4 @@ returns c = is-number (c .before .before)
 pub number-of-spec : {M : Type 1} → statement M
 number-of-spec =
     tie.close
-    (tie.spec kind-start-requires edge-columns-requires mul-result add-result add-result-2 returns)
+    (tie.spec (λ c κs. search needs) (λ c κs. search needs) mul-result add-result add-result-2 returns)

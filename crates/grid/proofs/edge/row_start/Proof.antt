@@ -7,12 +7,6 @@ use Rattle.grid.proofs.Numbers.{row-fits, edges-small}
 use Rattle.grid.proofs.edge.row_start.Statement.{statement}
 use Rattle.grid.proofs.edge.row_start.Tie as tie
 
-kind-start-requires : tie.Need-kind-start-requires
-kind-start-requires c κs = search needs
-
-edge-columns-requires : tie.Need-edge-columns-requires
-edge-columns-requires c κs = search needs
-
 small : (c : tie.After-edge-columns)
     → c .before .kind-start .result + c .before .before .args .row * c .edge-columns .result ≤ 2095104
 small c =
@@ -32,4 +26,4 @@ returns c = rw (c .before .kind-start .ensures, c .edge-columns .ensures)
 
 pub row-start-spec : {M : Type 1} → statement M
 row-start-spec =
-    tie.close (tie.spec kind-start-requires edge-columns-requires mul-result add-result returns)
+    tie.close (tie.spec (λ c κs. search needs) (λ c κs. search needs) mul-result add-result returns)

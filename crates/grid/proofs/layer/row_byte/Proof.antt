@@ -9,9 +9,6 @@ use Rattle.grid.proofs.Samples.{byte-below}
 use Rattle.grid.proofs.layer.row_byte.Statement.{statement}
 use Rattle.grid.proofs.layer.row_byte.Tie as tie
 
-stride-of-requires : tie.Need-stride-of-requires
-stride-of-requires c κs = search needs
-
 below : (c : tie.After-stride-of)
     → c .before .before .args .row * c .stride-of .result + c .before .before .args .at < length (c .before .before .args .bitmap .now)
 below c =
@@ -34,4 +31,4 @@ returns c = rw (c .before .stride-of .ensures)
 
 pub row-byte-spec : {M : Type 1} → statement M
 row-byte-spec =
-    tie.close (tie.spec stride-of-requires mul-i add-i shared-slice-read-result returns)
+    tie.close (tie.spec (λ c κs. search needs) mul-i add-i shared-slice-read-result returns)

@@ -6,27 +6,6 @@ use Rattle.grid.proofs.Masks.{follows-joined, follows-ended}
 use Rattle.grid.proofs.mask.shifted_byte.Statement.{statement}
 use Rattle.grid.proofs.mask.shifted_byte.Tie as tie
 
-row-byte-requires : tie.Need-row-byte-requires
-row-byte-requires c κs = search needs
-
-add-if1 : tie.Need-add-if1
-add-if1 c = search needs
-
-stride-of-requires : tie.Need-stride-of-requires
-stride-of-requires c κs = search needs
-
-add-row-byte : tie.Need-add-row-byte
-add-row-byte c = search needs
-
-row-byte-requires-2 : tie.Need-row-byte-requires-2
-row-byte-requires-2 c κs = search needs
-
-mul-result : tie.Need-mul-result
-mul-result c = search needs
-
-add-result : tie.Need-add-result
-add-result c = search needs
-
 returns : tie.Need-returns
 returns c =
     let start = c .before .before .before .before .before in
@@ -48,13 +27,5 @@ returns-2 c =
 pub shifted-byte-spec : {M : Type 1} → statement M
 shifted-byte-spec =
     tie.close
-    (tie.spec
-    row-byte-requires
-    add-if1
-    stride-of-requires
-    add-row-byte
-    row-byte-requires-2
-    mul-result
-    add-result
-    returns
-    returns-2)
+    (tie.spec (λ c κs. search needs) (λ c. search needs) (λ c κs. search needs) (λ c. search needs) (λ c κs. search needs)
+    (λ c. search needs) (λ c. search needs) returns returns-2)

@@ -27,9 +27,6 @@ abbrev μ-loop : tie.MeasureT-loop
 loop-holds : tie.Need-loop-holds Inv-loop μ-loop
 loop-holds c = (search needs, λ k h. absurd (omega arith))
 
-border-column-requires : tie.Need-border-column-requires Inv-loop μ-loop
-border-column-requires c κs = search needs
-
 place : (c : tie.Then1 Inv-loop μ-loop)
     → c .before .before .before .loop .row * c .before .before .before .before .before .args .size .width ≤ 1048576
 place c =
@@ -66,12 +63,6 @@ returns c =
     (below-add (λ (k : ℕ). borderAt L k ≡ false) (row * a .size .width) column (loop .inv .1)
     (λ j h. in-row L row j (omega arith) false (leastFrom-below (borderIn L row) 0 (a .size .width) j (omega arith) (rw least-is at h))))
 
-add-row : tie.Need-add-row Inv-loop μ-loop
-add-row c = search needs
-
-loop-less : tie.Need-loop-less Inv-loop μ-loop
-loop-less c = search needs
-
 loop-again : tie.Need-loop-again Inv-loop μ-loop
 loop-again c =
     let loop = c .before .before .before .loop in
@@ -94,15 +85,5 @@ returns-2 c =
 pub ask-border-spec : {M : Type 1} → statement M
 ask-border-spec =
     tie.close
-    (tie.spec
-    Inv-loop
-    μ-loop
-    loop-holds
-    border-column-requires
-    mul-t9
-    add-t10
-    returns
-    add-row
-    loop-less
-    loop-again
+    (tie.spec Inv-loop μ-loop loop-holds (λ c κs. search needs) mul-t9 add-t10 returns (λ c. search needs) (λ c. search needs) loop-again
     returns-2)

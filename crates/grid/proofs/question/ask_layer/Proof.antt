@@ -8,14 +8,8 @@ use Rattle.grid.proofs.Answers.{first-no, first-yes, first-only, sized-
 use Rattle.grid.proofs.question.ask_layer.Statement.{statement}
 use Rattle.grid.proofs.question.ask_layer.Tie as tie
 
-ask-sides-requires : tie.Need-ask-sides-requires
-ask-sides-requires c κs = search needs
-
 enum-told : tie.Need-enum-told
 enum-told c = search needs
-
-enum-told-2 : tie.Need-enum-told-2
-enum-told-2 c = search needs
 
 returns : tie.Need-returns
 returns c =
@@ -25,12 +19,6 @@ returns c =
 
 ask-length-requires : tie.Need-ask-length-requires
 ask-length-requires c κs = sized-of (c .before .before .before .before .args .size) (sym (c .before .before .ask-sides .ensures) ∙ c .enum-told .given .1)
-
-enum-told-3 : tie.Need-enum-told-3
-enum-told-3 c = search needs
-
-enum-told-4 : tie.Need-enum-told-4
-enum-told-4 c = search needs
 
 returns-2 : tie.Need-returns-2
 returns-2 c =
@@ -45,12 +33,6 @@ ask-spare-requires c κs =
     whole-of (layerOf (start .args .size) (start .args .bitmap .now))
     (sized-of (start .args .size) (sym (c .before .before .before .before .before .ask-sides .ensures) ∙ c .before .before .before .enum-told .given .1))
     (sym (c .before .before .ask-length .ensures) ∙ c .enum-told3 .given .1)
-
-enum-told-5 : tie.Need-enum-told-5
-enum-told-5 c = search needs
-
-enum-told-6 : tie.Need-enum-told-6
-enum-told-6 c = search needs
 
 returns-3 : tie.Need-returns-3
 returns-3 c =
@@ -89,18 +71,5 @@ returns-4 c =
 pub ask-layer-spec : {M : Type 1} → statement M
 ask-layer-spec =
     tie.close
-    (tie.spec
-    ask-sides-requires
-    enum-told
-    enum-told-2
-    returns
-    ask-length-requires
-    enum-told-3
-    enum-told-4
-    returns-2
-    ask-spare-requires
-    enum-told-5
-    enum-told-6
-    returns-3
-    ask-border-requires
-    returns-4)
+    (tie.spec (λ c κs. search needs) enum-told (λ c. search needs) returns ask-length-requires (λ c. search needs) (λ c. search needs)
+    returns-2 ask-spare-requires (λ c. search needs) (λ c. search needs) returns-3 ask-border-requires returns-4)

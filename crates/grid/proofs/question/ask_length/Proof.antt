@@ -8,9 +8,6 @@ use Rattle.grid.specs.Questions.{lengthAnswer}
 use Rattle.grid.proofs.question.ask_length.Statement.{statement}
 use Rattle.grid.proofs.question.ask_length.Tie as tie
 
-stride-of-requires : tie.Need-stride-of-requires
-stride-of-requires c κs = search needs
-
 mul-if1 : tie.Need-mul-if1
 mul-if1 c =
     let start = c .before .before .before in
@@ -27,4 +24,4 @@ unfolding lengthAnswer
 returns-2 c = let x = c .if1 .left in rw (ne-eqb _ _ (rw (c .before .before .stride-of .ensures) at x))
 
 pub ask-length-spec : {M : Type 1} → statement M
-ask-length-spec = tie.close (tie.spec stride-of-requires mul-if1 returns returns-2)
+ask-length-spec = tie.close (tie.spec (λ c κs. search needs) mul-if1 returns returns-2)

@@ -6,15 +6,9 @@ use Rattle.grid.specs.Questions.{sidesAnswer}
 use Rattle.grid.proofs.question.ask_sides.Statement.{statement}
 use Rattle.grid.proofs.question.ask_sides.Tie as tie
 
-in-range-requires : tie.Need-in-range-requires
-in-range-requires c κs = search needs
-
 returns : tie.Need-returns
 unfolding sidesAnswer
 returns c = rw (sym (c .before .in-range .ensures) ∙ not-true _ (c .if1 .taken))
-
-in-range-requires-2 : tie.Need-in-range-requires-2
-in-range-requires-2 c κs = search needs
 
 returns-2 : tie.Need-returns-2
 unfolding sidesAnswer
@@ -34,4 +28,4 @@ returns-3 c =
 
 pub ask-sides-spec : {M : Type 1} → statement M
 ask-sides-spec =
-    tie.close (tie.spec in-range-requires returns in-range-requires-2 returns-2 returns-3)
+    tie.close (tie.spec (λ c κs. search needs) returns (λ c κs. search needs) returns-2 returns-3)

@@ -23,12 +23,6 @@ abbrev μ-loop : tie.MeasureT-loop
 loop-holds : tie.Need-loop-holds Inv-loop μ-loop
 loop-holds c = (search needs, λ k h. absurd (omega arith))
 
-spare-in-requires : tie.Need-spare-in-requires Inv-loop μ-loop
-spare-in-requires c κs = search needs
-
-row-end-requires : tie.Need-row-end-requires Inv-loop μ-loop
-row-end-requires c κs = search needs
-
 returns : tie.Need-returns Inv-loop μ-loop
 unfolding spareAnswer
 returns c =
@@ -46,12 +40,6 @@ returns c =
     (sym (c .before .before .spare-in .ensures) ∙ c .before .if1 .taken)
     (below-add (λ (k : ℕ). spareSet L k ≡ false) (row * stride (a .size)) last (loop .inv .1)
     (spare-inner L (start .pre) (λ i. shared-slice-known .given i .fits) row)))
-
-add-row : tie.Need-add-row Inv-loop μ-loop
-add-row c = search needs
-
-loop-less : tie.Need-loop-less Inv-loop μ-loop
-loop-less c = search needs
 
 loop-again : tie.Need-loop-again Inv-loop μ-loop
 loop-again c =
@@ -77,14 +65,5 @@ returns-2 c =
 pub ask-spare-spec : {M : Type 1} → statement M
 ask-spare-spec =
     tie.close
-    (tie.spec
-    Inv-loop
-    μ-loop
-    loop-holds
-    spare-in-requires
-    row-end-requires
-    returns
-    add-row
-    loop-less
-    loop-again
-    returns-2)
+    (tie.spec Inv-loop μ-loop loop-holds (λ c κs. search needs) (λ c κs. search needs) returns (λ c. search needs) (λ c. search needs)
+    loop-again returns-2)

@@ -11,21 +11,12 @@ use Rattle.grid.proofs.Borders.{west, east, bottom, top, on-border, bet
 use Rattle.grid.proofs.question.border_column.Statement.{statement}
 use Rattle.grid.proofs.question.border_column.Tie as tie
 
-inside-column-requires : tie.Need-inside-column-requires
-inside-column-requires c κs = search needs
-
 returns : tie.Need-returns
 returns c =
     let a = c .before .before .before .args in
     let L = layerOf (a .size) (a .bitmap .now) in
     c .inside-column .ensures
     ∙ leastFrom-same (sampleIn L (a .row)) (borderIn L (a .row)) 0 (a .size .width) (λ k. sym (on-border L k (a .row) (bottom L k (a .row) (c .before .if1 .taken))))
-
-sub-if2 : tie.Need-sub-if2
-sub-if2 c = search needs
-
-inside-column-requires-2 : tie.Need-inside-column-requires-2
-inside-column-requires-2 c κs = search needs
 
 returns-2 : tie.Need-returns-2
 returns-2 c =
@@ -34,24 +25,12 @@ returns-2 c =
     c .inside-column2 .ensures
     ∙ leastFrom-same (sampleIn L (a .row)) (borderIn L (a .row)) 0 (a .size .width) (λ k. sym (on-border L k (a .row) (top L k (a .row) (c .before .if2 .taken))))
 
-is-inside-requires : tie.Need-is-inside-requires
-is-inside-requires c κs = search needs
-
 returns-3 : tie.Need-returns-3
 returns-3 c =
     let a = c .before .before .before .before .before .before .args in
     let L = layerOf (a .size) (a .bitmap .now) in
     let inside : borderIn L (a .row) 0 ≡ true = on-border L 0 (a .row) (west L 0 (a .row) refl) ∙ sym (c .before .is-inside .ensures) ∙ c .if3 .taken in
     sym (least-is (borderIn L (a .row)) (a .size .width) 0 (search needs) inside (λ j h. absurd (omega arith)))
-
-sub-is-inside : tie.Need-sub-is-inside
-sub-is-inside c = search needs
-
-is-inside-requires-2 : tie.Need-is-inside-requires-2
-is-inside-requires-2 c κs = search needs
-
-sub-result : tie.Need-sub-result
-sub-result c = search needs
 
 returns-4 : tie.Need-returns-4
 returns-4 c =
@@ -77,16 +56,5 @@ returns-5 c =
 pub border-column-spec : {M : Type 1} → statement M
 border-column-spec =
     tie.close
-    (tie.spec
-    inside-column-requires
-    returns
-    sub-if2
-    inside-column-requires-2
-    returns-2
-    is-inside-requires
-    returns-3
-    sub-is-inside
-    is-inside-requires-2
-    sub-result
-    returns-4
-    returns-5)
+    (tie.spec (λ c κs. search needs) returns (λ c. search needs) (λ c κs. search needs) returns-2 (λ c κs. search needs) returns-3
+    (λ c. search needs) (λ c κs. search needs) (λ c. search needs) returns-4 returns-5)

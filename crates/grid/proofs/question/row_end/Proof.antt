@@ -6,9 +6,6 @@ use borrow.Author.Needs.{needs}
 use Rattle.grid.proofs.question.row_end.Statement.{statement}
 use Rattle.grid.proofs.question.row_end.Tie as tie
 
-stride-of-requires : tie.Need-stride-of-requires
-stride-of-requires c κs = search needs
-
 small : (c : tie.After-stride-of) → (c .before .args .row * c .stride-of .result ≤ 131072) × (c .stride-of .result ≤ 128)
 small c =
     let start = c .before in
@@ -18,9 +15,6 @@ small c =
 mul-result : tie.Need-mul-result
 mul-result c = omega (arith, small c)
 
-sub-result : tie.Need-sub-result
-sub-result c = search needs
-
 add-result : tie.Need-add-result
 add-result c = omega (arith, small c)
 
@@ -28,4 +22,4 @@ returns : tie.Need-returns
 returns c = rw (c .stride-of .ensures)
 
 pub row-end-spec : {M : Type 1} → statement M
-row-end-spec = tie.close (tie.spec stride-of-requires mul-result sub-result add-result returns)
+row-end-spec = tie.close (tie.spec (λ c κs. search needs) mul-result (λ c. search needs) add-result returns)

@@ -9,27 +9,6 @@ use Rattle.grid.proofs.Samples.{last-byte}
 use Rattle.grid.proofs.question.spare_in.Statement.{statement}
 use Rattle.grid.proofs.question.spare_in.Tie as tie
 
-stride-of-requires : tie.Need-stride-of-requires
-stride-of-requires c κs = search needs
-
-sub-last : tie.Need-sub-last
-sub-last c = search needs
-
-mul-used : tie.Need-mul-used
-mul-used c = search needs
-
-sub-used : tie.Need-sub-used
-sub-used c = search needs
-
-row-byte-requires : tie.Need-row-byte-requires
-row-byte-requires c κs = search needs
-
-widen-requires : tie.Need-widen-requires
-widen-requires c κs = search needs
-
-shr-result : tie.Need-shr-result
-shr-result c = search needs
-
 returns : tie.Need-returns
 returns c =
     let start = c .before .before .before .before .before in
@@ -40,12 +19,5 @@ returns c =
 pub spare-in-spec : {M : Type 1} → statement M
 spare-in-spec =
     tie.close
-    (tie.spec
-    stride-of-requires
-    sub-last
-    mul-used
-    sub-used
-    row-byte-requires
-    widen-requires
-    shr-result
-    returns)
+    (tie.spec (λ c κs. search needs) (λ c. search needs) (λ c. search needs) (λ c. search needs) (λ c κs. search needs)
+    (λ c κs. search needs) (λ c. search needs) returns)

@@ -5,6 +5,7 @@ use Rattle.grid.specs.Layer.{layerOf}
 use Rattle.contour.proofs.Sticks.{stick-in}
 use Rattle.chord.specs.Runs.{crossesRun}
 use Rattle.table.specs.Vertices.{offsetAt}
+use Rattle.table.proofs.Lent.{has-entry}
 use Rattle.drawn.specs.Neighbours.{nextKept}
 use Rattle.drawn.specs.Drawn.{vertex, edgeCrosses}
 use Rattle.drawn.proofs.Gaps.{kept-not-removed}
@@ -14,41 +15,27 @@ use Rattle.held.proofs.edge.held_at.Tie as tie
 
 kept-after-requires : tie.Need-kept-after-requires
 kept-after-requires c κs =
-    let a = c .before .before .args in
-    let given = c .before .before .pre in
-    let L = layerOf (a .size) (a .bitmap .now) in
-    let t = a .table .now in
-    (given .0, (given .1 .0, (given .1 .1 .0, kept-not-removed L t (a .e) (given .1 .1 .1))))
+    let start = c .before .before in
+    let a = start .args in
+    (start .pre .0, kept-not-removed (layerOf (a .size) (a .bitmap .now)) (a .table .now) (a .e) (start .pre .1))
 
 vertex-at-requires : tie.Need-vertex-at-requires
-vertex-at-requires c κs =
-    let a = c .before .before .before .args in
-    let given = c .before .before .before .pre in
-    let L = layerOf (a .size) (a .bitmap .now) in
-    let t = a .table .now in
-    (given .0 .whole .sized, (given .1 .0, stick-in L (a .e) (given .1 .1 .0)))
+vertex-at-requires c κs = has-entry (c .before .before .before .pre .0)
 
 vertex-at-requires-2 : tie.Need-vertex-at-requires-2
 vertex-at-requires-2 c κs =
-    let a = c .before .before .before .before .args in
-    let given = c .before .before .before .before .pre in
-    let L = layerOf (a .size) (a .bitmap .now) in
-    let t = a .table .now in
-    let end = c .before .kept-after in
-    (given .0 .whole .sized, (given .1 .0, stick-in L (end .result .stick) (end .ensures .1 .1)))
-
-crosses-run-requires : tie.Need-crosses-run-requires
-crosses-run-requires c κs = search needs
+    let given = c .before .before .before .before .pre .0 in
+    has-entry (record { sound = given .sound; exact = given .exact; stick = c .before .kept-after .ensures .1 .1 })
 
 returns : tie.Need-returns
 unfolding edgeCrosses offsetAt
 returns c =
-    let a = c .before .before .before .before .before .before .args in
-    let given = c .before .before .before .before .before .before .pre in
+    let at-end = c .before .before .before in
+    let a = at-end .before .before .before .args in
     let L = layerOf (a .size) (a .bitmap .now) in
     let t = a .table .now in
     let last = nextKept L t (a .e) in
-    let end = c .before .before .before .kept-after .ensures in
+    let end = at-end .kept-after .ensures in
     let p : c .before .before .vertex-at .result ≡ vertex L t (a .e) = c .before .before .vertex-at .ensures .0 in
     let q : c .before .vertex-at2 .result ≡ vertex L t last = c .before .vertex-at2 .ensures .0 ∙ ap (vertex L t) (end .0) in
     c .crosses-run .ensures ∙ (λ i. crossesRun L (p i) (q i) (a .e) (end .1 .0 i))
@@ -57,9 +44,4 @@ returns c =
 pub held-at-spec : {M : Type 1} → statement M
 held-at-spec =
     tie.close
-    (tie.spec
-    kept-after-requires
-    vertex-at-requires
-    vertex-at-requires-2
-    crosses-run-requires
-    returns)
+    (tie.spec kept-after-requires vertex-at-requires vertex-at-requires-2 (λ c κs. search needs) returns)

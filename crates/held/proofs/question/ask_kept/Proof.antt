@@ -9,12 +9,6 @@ use Rattle.held.proofs.Holding.{kept-yes}
 use Rattle.held.proofs.question.ask_kept.Statement.{statement}
 use Rattle.held.proofs.question.ask_kept.Tie as tie
 
-ask-all-kept-requires : tie.Need-ask-all-kept-requires
-ask-all-kept-requires c κs = search needs
-
-enum-told : tie.Need-enum-told
-enum-told c = search needs
-
 returns : tie.Need-returns
 returns c =
     let a = c .before .before .before .before .before .args in
@@ -22,19 +16,7 @@ returns c =
     let t = a .table .now in
     let given = c .before .before .before .before .before .pre in
     let yes = c .enum-told .given .1 in
-    yes ∙ kept-yes L t (given .0) (given .1 .0) (given .1 .1 .0) (sym (c .before .before .ask-all-kept .ensures) ∙ yes)
-
-enum-told-2 : tie.Need-enum-told-2
-enum-told-2 c = search needs
-
-ask-contours-requires : tie.Need-ask-contours-requires
-ask-contours-requires c κs = search needs
-
-enum-told-3 : tie.Need-enum-told-3
-enum-told-3 c = search needs
-
-enum-told-4 : tie.Need-enum-told-4
-enum-told-4 c = search needs
+    yes ∙ kept-yes L t (given .0 .sound) (given .0 .exact) (given .1 .0) (sym (c .before .before .ask-all-kept .ensures) ∙ yes)
 
 returns-2 : tie.Need-returns-2
 returns-2 c =
@@ -54,13 +36,5 @@ returns-3 c =
 pub ask-kept-spec : {M : Type 1} → statement M
 ask-kept-spec =
     tie.close
-    (tie.spec
-    ask-all-kept-requires
-    enum-told
-    returns
-    enum-told-2
-    ask-contours-requires
-    enum-told-3
-    enum-told-4
-    returns-2
-    returns-3)
+    (tie.spec (λ c κs. search needs) (λ c. search needs) returns (λ c. search needs) (λ c κs. search needs) (λ c. search needs)
+    (λ c. search needs) returns-2 returns-3)

@@ -11,15 +11,6 @@ use Rattle.held.proofs.Asking.{six-of}
 use Rattle.held.proofs.question.ask_kept_firsts.Statement.{statement}
 use Rattle.held.proofs.question.ask_kept_firsts.Tie as tie
 
-ask-six-requires : tie.Need-ask-six-requires
-ask-six-requires c κs = search needs
-
-enum-told : tie.Need-enum-told
-enum-told c = search needs
-
-enum-told-2 : tie.Need-enum-told-2
-enum-told-2 c = search needs
-
 returns : tie.Need-returns
 returns c =
     let asked = c .before .before in
@@ -38,7 +29,7 @@ first-sticks-requires c κs =
     let start = asked .before .before .before in
     let a = start .args in
     let six = six-of (layerOf (a .size) (a .bitmap .now)) (a .table .now) (sym (asked .ask-six .ensures) ∙ told .enum-told .given .1) in
-    (six .0, start .pre)
+    (six .0 .sound, start .pre)
 
 ask-kept-requires : tie.Need-ask-kept-requires
 ask-kept-requires c κs =
@@ -47,7 +38,7 @@ ask-kept-requires c κs =
     let asked = told .before .before in
     let a = asked .before .before .before .args in
     let six = six-of (layerOf (a .size) (a .bitmap .now)) (a .table .now) (sym (asked .ask-six .ensures) ∙ told .enum-told .given .1) in
-    (six .0, (six .1, (six .2, marked .first-sticks .ensures)))
+    (six .0, (six .1, marked .first-sticks .ensures))
 
 returns-2 : tie.Need-returns-2
 returns-2 c =
@@ -63,11 +54,4 @@ returns-2 c =
 pub ask-kept-firsts-spec : {M : Type 1} → statement M
 ask-kept-firsts-spec =
     tie.close
-    (tie.spec
-    ask-six-requires
-    enum-told
-    enum-told-2
-    returns
-    first-sticks-requires
-    ask-kept-requires
-    returns-2)
+    (tie.spec (λ c κs. search needs) (λ c. search needs) (λ c. search needs) returns first-sticks-requires ask-kept-requires returns-2)

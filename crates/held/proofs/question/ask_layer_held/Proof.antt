@@ -7,8 +7,5 @@ use Rattle.held.proofs.question.ask_layer_held.Tie as tie
 ask-held-firsts-requires : tie.Need-ask-held-firsts-requires
 ask-held-firsts-requires c κs = empty-set
 
-returns : tie.Need-returns
-returns c = search needs
-
 pub ask-layer-held-spec : {M : Type 1} → statement M
-ask-layer-held-spec = tie.close (tie.spec ask-held-firsts-requires returns)
+ask-layer-held-spec = tie.close (tie.spec ask-held-firsts-requires (λ c. search needs))

@@ -10,15 +10,6 @@ use Rattle.table.proofs.Lengths.{lengths-of}
 use Rattle.held.proofs.question.ask_six.Statement.{statement}
 use Rattle.held.proofs.question.ask_six.Tie as tie
 
-ask-lengths-requires : tie.Need-ask-lengths-requires
-ask-lengths-requires c κs = search needs
-
-enum-told : tie.Need-enum-told
-enum-told c = search needs
-
-enum-told-2 : tie.Need-enum-told-2
-enum-told-2 c = search needs
-
 returns : tie.Need-returns
 returns c =
     let a = c .before .before .before .before .before .args in
@@ -31,8 +22,7 @@ ask-entries-requires : tie.Need-ask-entries-requires
 ask-entries-requires c κs =
     let a = c .before .before .before .before .before .args in
     let L = layerOf (a .size) (a .bitmap .now) in
-    let both = lengths-of L (length (a .table .now)) (sym (c .before .before .ask-lengths .ensures) ∙ c .enum-told .given .1) in
-    (both .0, both .1)
+    lengths-of L (a .table .now) (sym (c .before .before .ask-lengths .ensures) ∙ c .enum-told .given .1)
 
 returns-2 : tie.Need-returns-2
 returns-2 c =
@@ -45,4 +35,4 @@ returns-2 c =
 pub ask-six-spec : {M : Type 1} → statement M
 ask-six-spec =
     tie.close
-    (tie.spec ask-lengths-requires enum-told enum-told-2 returns ask-entries-requires returns-2)
+    (tie.spec (λ c κs. search needs) (λ c. search needs) (λ c. search needs) returns ask-entries-requires returns-2)

@@ -1,8 +1,7 @@
 -- `held_contour` meets its contract. The invariant: the kept vertices counted so far and those that are left are all of them, and what is
--- left decides whether all drawn edges cross.
+-- left decides whether all drawn edges cross. `here` is what is given of the stick that the walk is at, `went` the work on it.
 use mathlib.Core.Path.{_≡_, sym, ap, _∙_}
 use mathlib.Core.Logic.{inl, inr}
-use mathlib.Core.Bool.{true}
 use Prim.Native.Nat.{_+_}
 use native.Mathlib.Omega.{arith}
 use borrow.Author.Needs.{needs}
@@ -12,9 +11,11 @@ use Rattle.arith.specs.Booleans.{asNumber}
 use Rattle.grid.specs.Layer.{layerOf}
 use Rattle.contour.specs.Walk.{rest}
 use Rattle.contour.specs.Contours.{walkOf}
-use Rattle.table.specs.Vertices.{isKept, keptAt}
 use Rattle.contour.proofs.Loop.{shorter}
-use Rattle.contour.proofs.Sticks.{laws, stick-in}
+use Rattle.contour.proofs.Sticks.{laws}
+use Rattle.table.specs.Vertices.{isKept, keptAt}
+use Rattle.table.specs.Lent.{LentAt}
+use Rattle.table.proofs.Lent.{has-entry}
 use Rattle.held.proofs.Asking.{Cleared, cleared-kept, cleared-none, Counted, counted-start, counted-stick, counted-most, counted-no, counted-turn, counted-last}
 use Rattle.held.proofs.walk.held_contour.Statement.{statement}
 use Rattle.held.proofs.walk.held_contour.Tie as tie
@@ -25,27 +26,13 @@ Inv-loop size bitmap table first e₀ kept₀ e kept = Counted (layerOf size bit
 abbrev μ-loop : tie.MeasureT-loop
 μ-loop size bitmap table first e₀ kept₀ e kept = length (rest (walkOf (layerOf size bitmap)) e first)
 
-loop-holds : tie.Need-loop-holds Inv-loop μ-loop
-loop-holds c =
-    let a = c .before .before .args in
-    let given = c .before .before .pre in
-    let L = layerOf (a .size) (a .bitmap .now) in
-    let t = a .table .now in
-    counted-start L (given .0) t (a .first) (given .1 .1)
-
-entry-at-requires : tie.Need-entry-at-requires Inv-loop μ-loop
-entry-at-requires c κs =
-    let a = c .before .before .before .args in
+here : (c : tie.At-loop Inv-loop μ-loop)
+    → let a = c .before .before .before .args in LentAt (layerOf (a .size) (a .bitmap .now)) (a .table .now) (c .loop .e)
+here c =
     let given = c .before .before .before .pre in
-    let L = layerOf (a .size) (a .bitmap .now) in
-    let t = a .table .now in
-    let loop = c .loop in
-    (given .0 .whole .sized, (given .1 .0, stick-in L (loop .e) (counted-stick L (given .0) t (a .first) (loop .e) (loop .kept) (loop .inv))))
+    record { sound = given .sound; exact = given .exact; stick = counted-stick (given .sound) (c .loop .inv) }
 
-is-kept-requires : tie.Need-is-kept-requires Inv-loop μ-loop
-is-kept-requires c κs = search needs
-
--- what the entry says of the stick that the walk is at
+-- what the entry says of that stick
 kept-is : (c : tie.After-is-kept Inv-loop μ-loop)
     → let a = c .before .before .before .before .before .args in
     keptAt (layerOf (a .size) (a .bitmap .now)) (a .table .now) (c .before .before .loop .e) ≡ c .is-kept .result
@@ -53,117 +40,74 @@ unfolding keptAt
 kept-is c = sym (c .is-kept .ensures ∙ ap isKept (c .before .entry-at .ensures))
 
 held-at-requires : tie.Need-held-at-requires Inv-loop μ-loop
-held-at-requires c κs =
-    let a = c .before .before .before .before .before .before .args in
-    let given = c .before .before .before .before .before .before .pre in
-    let L = layerOf (a .size) (a .bitmap .now) in
-    let t = a .table .now in
-    let loop = c .before .before .before .loop in
-    (given .0, (given .1 .0, (counted-stick L (given .0) t (a .first) (loop .e) (loop .kept) (loop .inv), kept-is (c .before) ∙ c .if1 .taken)))
+held-at-requires c κs = (here (c .before .before .before), kept-is (c .before) ∙ c .if1 .taken)
 
 returns : tie.Need-returns Inv-loop μ-loop
 returns c =
-    let a = c .before .before .before .before .before .before .before .before .args in
-    let given = c .before .before .before .before .before .before .before .before .pre in
-    let L = layerOf (a .size) (a .bitmap .now) in
-    let t = a .table .now in
-    let loop = c .before .before .before .before .before .loop in
-    let kept = kept-is (c .before .before .before) ∙ c .before .before .if1 .taken in
-    let missed = sym (c .before .held-at .ensures) ∙ not-true _ (c .if2 .taken) in
-    counted-no L (given .0) t (a .first) (loop .e) (loop .kept) (loop .inv) kept missed
+    let asked = c .before .before in
+    let at-loop = asked .before .before .before in
+    counted-no (at-loop .before .before .before .pre .sound) (at-loop .loop .inv) (kept-is (asked .before) ∙ asked .if1 .taken)
+    (sym (c .before .held-at .ensures) ∙ not-true _ (c .if2 .taken))
 
 add-kept : tie.Need-add-kept Inv-loop μ-loop
 add-kept c =
-    let a = c .before .before .before .before .before .before .before .before .args in
-    let given = c .before .before .before .before .before .before .before .before .pre in
-    let L = layerOf (a .size) (a .bitmap .now) in
-    let t = a .table .now in
-    let loop = c .before .before .before .before .before .loop in
-    omega (arith, counted-most L (given .0) t (a .first) (loop .e) (loop .kept) (loop .inv))
+    let at-loop = c .before .before .before .before .before in
+    omega (arith, counted-most (at-loop .before .before .before .pre .sound) (at-loop .loop .inv))
 
--- the work on that stick: its drawn edge crosses what it must, and it is counted if it is kept
+-- its drawn edge crosses what it must, and it is counted if it is kept
 went : (c : tie.Joined1 Inv-loop μ-loop)
-    → let a = c .before .before .before .before .before .before .args in
+    → let at-loop = c .before .before .before in
+    let a = at-loop .before .before .before .args in
     let L = layerOf (a .size) (a .bitmap .now) in
-    let loop = c .before .before .before .loop in
-    Cleared L (a .table .now) (loop .e) × (c .if1 .kept ≡ loop .kept + asNumber (keptAt L (a .table .now) (loop .e)))
+    Cleared L (a .table .now) (at-loop .loop .e)
+    × (c .if1 .kept ≡ at-loop .loop .kept + asNumber (keptAt L (a .table .now) (at-loop .loop .e)))
 went c =
-    let a = c .before .before .before .before .before .before .args in
+    let at-loop = c .before .before .before in
+    let a = at-loop .before .before .before .args in
     let L = layerOf (a .size) (a .bitmap .now) in
     let t = a .table .now in
-    let loop = c .before .before .before .loop in
+    let e = at-loop .loop .e in
     let kept = kept-is (c .before) in
     elim (c .if1 .came) [
       | inl w ↦
           let yes = kept ∙ w .0 .taken in
           let crossed = sym (w .1 .ensures) ∙ not-false _ (w .2 .left) in
-          (cleared-kept L t (loop .e) yes crossed, omega (arith, w .3, ap asNumber yes))
+          (cleared-kept L t e yes crossed, omega (arith, w .3, ap asNumber yes))
       | inr w ↦
           let none = kept ∙ w .0 .left in
-          (cleared-none L t (loop .e) none, omega (arith, w .1, ap asNumber none))
+          (cleared-none L t e none, omega (arith, w .1, ap asNumber none))
     ]
 
 next-stick-requires : tie.Need-next-stick-requires Inv-loop μ-loop
-next-stick-requires c κs =
-    let a = c .before .before .before .before .before .before .args in
-    let given = c .before .before .before .before .before .before .pre in
-    let L = layerOf (a .size) (a .bitmap .now) in
-    let t = a .table .now in
-    let loop = c .before .before .before .loop in
-    (given .0, counted-stick L (given .0) t (a .first) (loop .e) (loop .kept) (loop .inv))
-
-same-edge-requires : tie.Need-same-edge-requires Inv-loop μ-loop
-same-edge-requires c κs = search needs
+next-stick-requires c κs = let given = here (c .before .before .before) in (given .sound, given .stick)
 
 loop-less : tie.Need-loop-less Inv-loop μ-loop
 loop-less c =
-    let a = c .before .before .before .before .before .before .before .before .before .args in
-    let given = c .before .before .before .before .before .before .before .before .before .pre in
-    let L = layerOf (a .size) (a .bitmap .now) in
-    let t = a .table .now in
-    let loop = c .before .before .before .before .before .before .loop in
-    let step = c .before .before .next-stick in
-    let differ = sym (c .before .same-edge .ensures) ∙ c .if3 .left in
-    shorter (walkOf L) (laws L (given .0)) (a .first) (loop .e) (step .result) (loop .inv .due) (step .ensures) differ
+    let stepped = c .before .before in
+    let at-loop = stepped .before .before .before .before in
+    let start = at-loop .before .before .before in
+    let w = walkOf (layerOf (start .args .size) (start .args .bitmap .now)) in
+    shorter w (laws _ (start .pre .sound)) _ _ _ (at-loop .loop .inv .due) (stepped .next-stick .ensures)
+    (sym (c .before .same-edge .ensures) ∙ c .if3 .left)
 
 loop-again : tie.Need-loop-again Inv-loop μ-loop
 loop-again c =
-    let a = c .before .before .before .before .before .before .before .before .before .args in
-    let given = c .before .before .before .before .before .before .before .before .before .pre in
-    let L = layerOf (a .size) (a .bitmap .now) in
-    let t = a .table .now in
-    let loop = c .before .before .before .before .before .before .loop in
-    let step = c .before .before .next-stick in
-    let w = went (c .before .before .before) in
-    let differ = sym (c .before .same-edge .ensures) ∙ c .if3 .left in
-    counted-turn L (given .0) t (a .first) (loop .e) (loop .kept) (loop .inv) (step .result) _ (step .ensures) (w .0) (w .1) differ
+    let stepped = c .before .before in
+    let at-loop = stepped .before .before .before .before in
+    let w = went (stepped .before) in
+    counted-turn (at-loop .before .before .before .pre .sound) (at-loop .loop .inv) (stepped .next-stick .ensures) (w .0) (w .1)
+    (sym (c .before .same-edge .ensures) ∙ c .if3 .left)
 
 returns-2 : tie.Need-returns-2 Inv-loop μ-loop
 returns-2 c =
-    let a = c .before .before .before .before .before .before .before .before .before .args in
-    let given = c .before .before .before .before .before .before .before .before .before .pre in
-    let L = layerOf (a .size) (a .bitmap .now) in
-    let t = a .table .now in
-    let loop = c .before .before .before .before .before .before .loop in
-    let step = c .before .before .next-stick in
-    let w = went (c .before .before .before) in
-    let back = sym (c .before .same-edge .ensures) ∙ c .if3 .taken in
-    counted-last L (given .0) t (a .first) (loop .e) (loop .kept) (loop .inv) (step .result) _ (step .ensures) (w .0) (w .1) back
+    let stepped = c .before .before in
+    let at-loop = stepped .before .before .before .before in
+    let w = went (stepped .before) in
+    counted-last (at-loop .before .before .before .pre .sound) (at-loop .loop .inv) (stepped .next-stick .ensures) (w .0) (w .1)
+    (sym (c .before .same-edge .ensures) ∙ c .if3 .taken)
 
 pub held-contour-spec : {M : Type 1} → statement M
 held-contour-spec =
     tie.close
-    (tie.spec
-    Inv-loop
-    μ-loop
-    loop-holds
-    entry-at-requires
-    is-kept-requires
-    held-at-requires
-    returns
-    add-kept
-    next-stick-requires
-    same-edge-requires
-    loop-less
-    loop-again
-    returns-2)
+    (tie.spec Inv-loop μ-loop (λ c. counted-start (c .before .before .pre)) (λ c κs. has-entry (here c)) (λ c κs. search needs)
+    held-at-requires returns add-kept next-stick-requires (λ c κs. search needs) loop-less loop-again returns-2)

@@ -8,23 +8,8 @@ use lib.ListN.{set, length-set}
 use Rattle.planner.proofs.item.put_point.Statement.{statement}
 use Rattle.planner.proofs.item.put_point.Tie as tie
 
-mul-points : tie.Need-mul-points
-mul-points c = search needs
-
-slice-write-points : tie.Need-slice-write-points
-slice-write-points c = search needs
-
-add-points : tie.Need-add-points
-add-points c = search needs
-
-mul-points-2 : tie.Need-mul-points-2
-mul-points-2 c = search needs
-
 slice-write-points-2 : tie.Need-slice-write-points-2
 slice-write-points-2 c = omega (arith, c .pre, length-set (c .args .points .now) (c .args .at) (c .args .x))
-
-same-length : tie.Need-same-length
-same-length c = search needs
 
 returns : tie.Need-returns
 returns c = let a = c .args in ap (λ (n : ℕ). set (set (a .points .now) (a .at) (a .x)) n (a .y)) (add-one (a .at))
@@ -32,11 +17,5 @@ returns c = let a = c .args in ap (λ (n : ℕ). set (set (a .points .now) (a .a
 pub put-point-spec : {M : Type 1} → statement M
 put-point-spec =
     tie.close
-    (tie.spec
-    mul-points
-    slice-write-points
-    add-points
-    mul-points-2
-    slice-write-points-2
-    same-length
+    (tie.spec (λ c. search needs) (λ c. search needs) (λ c. search needs) (λ c. search needs) slice-write-points-2 (λ c. search needs)
     returns)

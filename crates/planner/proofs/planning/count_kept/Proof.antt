@@ -23,26 +23,11 @@ abbrev μ-loop : tie.MeasureT-loop
 loop-holds : tie.Need-loop-holds Inv-loop μ-loop
 loop-holds c = (omega arith, count-zero (keptEntry (c .before .args .table .now)))
 
-mul-entry-of : tie.Need-mul-entry-of Inv-loop μ-loop
-mul-entry-of c = search needs
-
-shared-slice-read-entry-of : tie.Need-shared-slice-read-entry-of Inv-loop μ-loop
-shared-slice-read-entry-of c = search needs
-
-entry-of-requires : tie.Need-entry-of-requires Inv-loop μ-loop
-entry-of-requires c κs = search needs
-
-is-kept-requires : tie.Need-is-kept-requires Inv-loop μ-loop
-is-kept-requires c κs = search needs
-
 add-kept : tie.Need-add-kept Inv-loop μ-loop
 add-kept c =
     let at-loop = c .before .before .before .before .before in
     let t = at-loop .before .before .args .table .now in
     omega (arith, at-loop .loop .inv .1, count-le (keptEntry t) (at-loop .loop .n))
-
-add-n : tie.Need-add-n Inv-loop μ-loop
-add-n c = search needs
 
 loop-less : tie.Need-loop-less Inv-loop μ-loop
 loop-less c = omega arith
@@ -70,16 +55,5 @@ returns c =
 pub count-kept-spec : {M : Type 1} → statement M
 count-kept-spec =
     tie.close
-    (tie.spec
-    Inv-loop
-    μ-loop
-    loop-holds
-    mul-entry-of
-    shared-slice-read-entry-of
-    entry-of-requires
-    is-kept-requires
-    add-kept
-    add-n
-    loop-less
-    loop-again
-    returns)
+    (tie.spec Inv-loop μ-loop loop-holds (λ c. search needs) (λ c. search needs) (λ c κs. search needs) (λ c κs. search needs) add-kept
+    (λ c. search needs) loop-less loop-again returns)

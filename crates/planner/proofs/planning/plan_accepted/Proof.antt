@@ -1,117 +1,58 @@
--- `plan_accepted` meets its contract.
+-- `plan_accepted` meets its contract: `counts` has the numbers by which question 14 is decided.
 use native.Mathlib.Omega.{arith}
 use borrow.Author.Needs.{needs}
 use Rattle.grid.specs.Layer.{layerOf}
-use Rattle.contour.specs.Contours.{firstSticks}
 use Rattle.contour.proofs.FirstSets.{counted-below}
-use Rattle.planner.proofs.Outcomes.{outcome-no, outcome-yes, counts-fit, short-items, short-points, room-yes, room-of}
+use Rattle.planner.proofs.Outcomes.{Tallies, tallied, tallies-fit, refused-items, refused-points, list-fits, list-done}
 use Rattle.planner.proofs.planning.plan_accepted.Statement.{statement}
 use Rattle.planner.proofs.planning.plan_accepted.Tie as tie
 
-count-kept-requires : tie.Need-count-kept-requires
-count-kept-requires c κs = search needs
-
-kind-start-requires : tie.Need-kind-start-requires
-kind-start-requires c κs = search needs
+abbrev start : tie.After-kind-start → tie.Start
+start c = c .before .before .before .before .before .before
 
 contour-count-requires : tie.Need-contour-count-requires
 contour-count-requires c κs =
-    let start = c .before .before .before .before .before .before in
-    let a = start .args in
-    counted-below (layerOf (a .size) (a .bitmap .now)) (start .pre .0 .sound) (a .set .now) (start .pre .1) _ (c .kind-start .ensures)
+    let given = start c .pre in
+    let a = start c .args in
+    counted-below (layerOf (a .size) (a .bitmap .now)) (given .0 .sound) (a .set .now) (given .1) _ (c .kind-start .ensures)
+
+counts : (c : tie.After-contour-count)
+    → let a = start (c .before) .args in
+    Tallies (layerOf (a .size) (a .bitmap .now)) (a .table .now) (c .before .before .count-kept .result) (c .contour-count .result)
+counts c =
+    let given = start (c .before) .pre in tallied (given .0) (given .1) (c .before .before .count-kept .ensures) (c .contour-count .ensures)
 
 add-if1 : tie.Need-add-if1
-add-if1 c =
-    let start = c .before .before .before .before .before .before .before in
-    let a = start .args in
-    let L = layerOf (a .size) (a .bitmap .now) in
-    let kept = c .before .before .count-kept in
-    let many = c .contour-count in
-    omega (
-      arith,
-      counts-fit L (a .table .now) _ (a .items .now) (a .points .now) (start .pre .0) (start .pre .1)
-          (kept .result) (many .result) (kept .ensures) (many .ensures),
-    )
+add-if1 c = omega (arith, tallies-fit (counts c))
 
 returns : tie.Need-returns
-returns c =
-    let counted = c .before in
-    let start = counted .before .before .before .before .before .before .before in
-    let a = start .args in
-    let L = layerOf (a .size) (a .bitmap .now) in
-    let kept = counted .before .before .count-kept in
-    let many = counted .contour-count in
-    outcome-no L (a .table .now) (firstSticks L) (a .items .now) (a .points .now)
-    (short-items L (a .table .now) _ (a .items .now) (a .points .now) (start .pre .0) (start .pre .1)
-    (kept .result) (many .result) (kept .ensures) (many .ensures) (c .if1 .taken))
-
-mul-if2 : tie.Need-mul-if2
-mul-if2 c = search needs
+returns c = let a = start (c .before .before) .args in refused-items (counts (c .before)) (a .items .now) (a .points .now) (c .if1 .taken)
 
 returns-2 : tie.Need-returns-2
 returns-2 c =
     let counted = c .before .before in
-    let start = counted .before .before .before .before .before .before .before in
-    let a = start .args in
-    let L = layerOf (a .size) (a .bitmap .now) in
-    let kept = counted .before .before .count-kept in
-    let many = counted .contour-count in
-    outcome-no L (a .table .now) (firstSticks L) (a .items .now) (a .points .now)
-    (short-points L (a .table .now) _ (a .items .now) (a .points .now) (start .pre .0) (start .pre .1)
-    (kept .result) (many .result) (kept .ensures) (many .ensures) (c .if2 .taken))
+    let a = start (counted .before) .args in
+    refused-points (counts counted) (a .items .now) (a .points .now) (c .if2 .taken)
 
 write-contours-requires : tie.Need-write-contours-requires
 write-contours-requires c κs =
     let wide = c .before .before in
     let counted = wide .before .before in
-    let start = counted .before .before .before .before .before .before .before in
-    let a = start .args in
-    let L = layerOf (a .size) (a .bitmap .now) in
-    let kept = counted .before .before .count-kept in
-    let many = counted .contour-count in (
-      start .pre .0 .sound,
-      (
-        start .pre .0 .exact,
-        (
-          start .pre .1,
-          room-of L (a .table .now) _ (a .items .now) (a .points .now) (start .pre .0) (start .pre .1)
-              (kept .result) (many .result) (kept .ensures) (many .ensures) (wide .before .if1 .left) (wide .if2 .left),
-        ),
-      ),
-    )
-
-same-length : tie.Need-same-length
-same-length c = search needs
-
-same-length-2 : tie.Need-same-length-2
-same-length-2 c = search needs
+    let given = start (counted .before) .pre in
+    let a = start (counted .before) .args in
+    let room = list-fits (counts counted) (a .items .now) (a .points .now) (wide .before .if1 .left) (wide .if2 .left) in
+    (record { sound = given .0 .sound; exact = given .0 .exact }, (given .1, room))
 
 returns-3 : tie.Need-returns-3
 returns-3 c =
     let done = c .before .before .before .before in
     let wide = done .before .before .before in
     let counted = wide .before .before in
-    let start = counted .before .before .before .before .before .before .before in
-    let a = start .args in
-    let L = layerOf (a .size) (a .bitmap .now) in
-    let kept = counted .before .before .count-kept in
-    let many = counted .contour-count in
-    let yes = room-yes L (a .table .now) _ (a .items .now) (a .points .now) (start .pre .0) (start .pre .1)
-    (kept .result) (many .result) (kept .ensures) (many .ensures) (wide .before .if1 .left) (wide .if2 .left) in
-    outcome-yes L (a .table .now) (firstSticks L) (a .items .now) (a .points .now) yes _ (done .write-contours .ensures)
+    let a = start (counted .before) .args in
+    list-done (counts counted) (a .items .now) (a .points .now) (wide .before .if1 .left) (wide .if2 .left) (done .write-contours .ensures)
 
 pub plan-accepted-spec : {M : Type 1} → statement M
 plan-accepted-spec =
     tie.close
-    (tie.spec
-    count-kept-requires
-    kind-start-requires
-    contour-count-requires
-    add-if1
-    returns
-    mul-if2
-    returns-2
-    write-contours-requires
-    same-length
-    same-length-2
-    returns-3)
+    (tie.spec (λ c κs. search needs) (λ c κs. search needs) contour-count-requires add-if1 returns (λ c. search needs) returns-2
+    write-contours-requires (λ c. search needs) (λ c. search needs) returns-3)

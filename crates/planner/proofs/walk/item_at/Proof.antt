@@ -9,19 +9,10 @@ use Rattle.planner.specs.Items.{pointAt, itemTo}
 use Rattle.planner.proofs.walk.item_at.Statement.{statement}
 use Rattle.planner.proofs.walk.item_at.Tie as tie
 
-entry-at-requires : tie.Need-entry-at-requires
-entry-at-requires c κs = search needs
-
-offset-in-requires : tie.Need-offset-in-requires
-offset-in-requires c κs = search needs
-
 point-of-requires : tie.Need-point-of-requires
 point-of-requires c κs =
     let start = c .before .before .before in
-    in-grid-near (start .args .size) (start .pre .0) (start .args .e) (start .pre .1 .1)
-
-item-to-requires : tie.Need-item-to-requires
-item-to-requires c κs = search needs
+    in-grid-near (start .args .size) (start .pre .sized) (start .args .e) (start .pre .in-grid)
 
 returns : tie.Need-returns
 returns c =
@@ -33,4 +24,4 @@ returns c =
 pub item-at-spec : {M : Type 1} → statement M
 item-at-spec =
     tie.close
-    (tie.spec entry-at-requires offset-in-requires point-of-requires item-to-requires returns)
+    (tie.spec (λ c κs. search needs) (λ c κs. search needs) point-of-requires (λ c κs. search needs) returns)

@@ -3,10 +3,9 @@ use mathlib.Core.Logic.{inl, inr}
 use mathlib.Core.Path.{_≡_, _∙_}
 use Prim.Native.Nat.{_-_, _≤_}
 use native.Mathlib.Omega.{arith}
-use lib.ListN as ListN
 use borrow.Author.Needs.{needs}
-use Rattle.roll.specs.Commands.{rollAnswer}
-use Rattle.roll.proofs.Forms.{formedFrom, formed-all, formed-slide, formed-removal, formed-end, formed-wrong, at-slide, at-slide-cut, at-removal, at-removal-cut, at-end, at-other, at-none}
+use Rattle.roll.specs.Commands.{formedFrom, rollAnswer}
+use Rattle.roll.proofs.Forms.{formed-all, formed-slide, formed-removal, formed-end, formed-wrong, at-slide, at-slide-cut, at-removal, at-removal-cut, at-end, at-other, at-none}
 use Rattle.roll.proofs.command.ask_roll.Statement.{statement}
 use Rattle.roll.proofs.command.ask_roll.Tie as tie
 
@@ -19,64 +18,48 @@ abbrev μ-loop : tie.MeasureT-loop
 loop-holds : tie.Need-loop-holds Inv-loop μ-loop
 loop-holds c = (omega arith, formed-all (c .before .args .roll .now))
 
-shared-slice-read-byte : tie.Need-shared-slice-read-byte Inv-loop μ-loop
-shared-slice-read-byte c = search needs
-
-ask-last-requires : tie.Need-ask-last-requires Inv-loop μ-loop
-ask-last-requires c κs = search needs
-
 returns : tie.Need-returns Inv-loop μ-loop
 returns c =
-    let test = c .before .before .before .loop-test in
-    let start = c .before .before .before .before .before .before in
-    let r = start .args .roll .now in
-    let loop = c .before .before .before .before .loop in
-    let less = test .taken in
-    c .ask-last .ensures ∙ formed-end r (loop .at) (at-end r (loop .at) (c .before .match .keys3) less) ∙ loop .inv .1
+    let turn = c .before .before .before in
+    let loop = turn .before .loop in
+    let r = turn .before .before .before .args .roll .now in
+    c .ask-last .ensures ∙ formed-end r (loop .at) (at-end r (loop .at) (c .before .match .keys3) (turn .loop-test .taken)) ∙ loop .inv .1
 
 returns-2 : tie.Need-returns-2 Inv-loop μ-loop
 returns-2 c =
-    let start = c .before .before .before .before .before in
-    let r = start .args .roll .now in
-    let loop = c .before .before .before .loop in
+    let at-loop = c .before .before .before in
+    let at = at-loop .loop .at in
+    let r = at-loop .before .before .args .roll .now in
     let rest = c .match .rest in
-    formed-wrong r (loop .at) (at-other r (loop .at) (rest .0 .0 .1) (rest .0 .1) (rest .1)) ∙ loop .inv .1
-
-sub-if1 : tie.Need-sub-if1 Inv-loop μ-loop
-sub-if1 c = search needs
+    formed-wrong r at (at-other r at (rest .0 .0 .1) (rest .0 .1) (rest .1)) ∙ at-loop .loop .inv .1
 
 returns-3 : tie.Need-returns-3 Inv-loop μ-loop
 returns-3 c =
-    let test = c .before .before .before .loop-test in
-    let start = c .before .before .before .before .before .before in
-    let r = start .args .roll .now in
-    let loop = c .before .before .before .before .loop in
-    let less = test .taken in
+    let at-loop = c .before .before .before .before in
+    let at = at-loop .loop .at in
+    let r = at-loop .before .before .args .roll .now in
+    let less = c .before .before .before .loop-test .taken in
     let short = c .if1 .taken in
-    formed-wrong r (loop .at) (elim (c .before .match .came) [
-      | inl w ↦ at-slide-cut r (loop .at) (w .0 .keys1) (omega (arith, w .1))
-      | inr w ↦ at-removal-cut r (loop .at) (w .0 .keys2) (omega (arith, w .1))
-    ]) ∙ loop .inv .1
-
-add-at : tie.Need-add-at Inv-loop μ-loop
-add-at c = search needs
+    formed-wrong r at (elim (c .before .match .came) [
+      | inl w ↦ at-slide-cut r at (w .0 .keys1) (omega (arith, w .1))
+      | inr w ↦ at-removal-cut r at (w .0 .keys2) (omega (arith, w .1))
+    ]) ∙ at-loop .loop .inv .1
 
 loop-less : tie.Need-loop-less Inv-loop μ-loop
 loop-less c =
-    let arm = c .before .before .match in
-    elim (arm .came) [ inl w ↦ omega (arith, w .1) | inr w ↦ omega (arith, w .1) ]
+    elim (c .before .before .match .came) [ inl w ↦ omega (arith, w .1) | inr w ↦ omega (arith, w .1) ]
 
 loop-again : tie.Need-loop-again Inv-loop μ-loop
 loop-again c =
-    let arm = c .before .before .match in
-    let start = c .before .before .before .before .before .before .before in
-    let r = start .args .roll .now in
-    let loop = c .before .before .before .before .before .loop in
+    let arm = c .before .before in
+    let at-loop = arm .before .before .before in
+    let at = at-loop .loop .at in
+    let r = at-loop .before .before .args .roll .now in
     let whole = c .before .if1 .left in (
       omega arith,
-      elim (arm .came) [
-        | inl w ↦ rw (w .1) (formed-slide r (loop .at) (at-slide r (loop .at) (w .0 .keys1) (omega (arith, w .1)))) ∙ loop .inv .1
-        | inr w ↦ rw (w .1) (formed-removal r (loop .at) (at-removal r (loop .at) (w .0 .keys2) (omega (arith, w .1)))) ∙ loop .inv .1
+      elim (arm .match .came) [
+        | inl w ↦ rw (w .1) (formed-slide r at (at-slide r at (w .0 .keys1) (omega (arith, w .1)))) ∙ at-loop .loop .inv .1
+        | inr w ↦ rw (w .1) (formed-removal r at (at-removal r at (w .0 .keys2) (omega (arith, w .1)))) ∙ at-loop .loop .inv .1
       ],
     )
 
@@ -89,17 +72,5 @@ returns-4 c =
 pub ask-roll-spec : {M : Type 1} → statement M
 ask-roll-spec =
     tie.close
-    (tie.spec
-    Inv-loop
-    μ-loop
-    loop-holds
-    shared-slice-read-byte
-    ask-last-requires
-    returns
-    returns-2
-    sub-if1
-    returns-3
-    add-at
-    loop-less
-    loop-again
-    returns-4)
+    (tie.spec Inv-loop μ-loop loop-holds (λ c. search needs) (λ c κs. search needs) returns returns-2 (λ c. search needs) returns-3
+    (λ c. search needs) loop-less loop-again returns-4)

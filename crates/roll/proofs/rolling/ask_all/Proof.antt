@@ -9,15 +9,6 @@ use borrow.Author.Needs.{needs}
 use Rattle.roll.proofs.rolling.ask_all.Statement.{statement}
 use Rattle.roll.proofs.rolling.ask_all.Tie as tie
 
-ask-layer-held-requires : tie.Need-ask-layer-held-requires
-ask-layer-held-requires c κs = search needs
-
-enum-told : tie.Need-enum-told
-enum-told c = search needs
-
-enum-told-2 : tie.Need-enum-told-2
-enum-told-2 c = search needs
-
 returns : tie.Need-returns
 returns c =
     let ask-layer-held = c .before .before .ask-layer-held in
@@ -25,9 +16,6 @@ returns c =
     let L = layerOf (a .size) (a .bitmap .now) in
     let no-here = c .enum-told2 .given .1 in
     no-here ∙ append-no (heldQuestions L (a .table .now)) (rollAnswer (a .roll .now) ∷ []) (sym (ask-layer-held .ensures) ∙ no-here)
-
-ask-roll-requires : tie.Need-ask-roll-requires
-ask-roll-requires c κs = search needs
 
 returns-2 : tie.Need-returns-2
 returns-2 c =
@@ -41,4 +29,4 @@ returns-2 c =
 pub ask-all-spec : {M : Type 1} → statement M
 ask-all-spec =
     tie.close
-    (tie.spec ask-layer-held-requires enum-told enum-told-2 returns ask-roll-requires returns-2)
+    (tie.spec (λ c κs. search needs) (λ c. search needs) (λ c. search needs) returns (λ c κs. search needs) returns-2)

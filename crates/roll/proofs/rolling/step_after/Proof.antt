@@ -6,12 +6,6 @@ use borrow.Author.Needs.{needs}
 use Rattle.roll.proofs.rolling.step_after.Statement.{statement}
 use Rattle.roll.proofs.rolling.step_after.Tie as tie
 
-enum-told : tie.Need-enum-told
-enum-told c = search needs
-
-enum-known-answer : tie.Need-enum-known-answer
-enum-known-answer c = search needs
-
 returns : tie.Need-returns
 returns c =
     sym (ap (λ (x : Answer). stepOn x (c .before .before .args .after)) (c .enum-told .given .1))
@@ -21,4 +15,4 @@ returns-2 c =
     sym (ap (λ (x : Answer). stepOn x (c .before .before .before .args .after)) (c .before .answer .given .1))
 
 pub step-after-spec : {M : Type 1} → statement M
-step-after-spec = tie.close (tie.spec enum-told enum-known-answer returns returns-2)
+step-after-spec = tie.close (tie.spec (λ c. search needs) (λ c. search needs) returns returns-2)

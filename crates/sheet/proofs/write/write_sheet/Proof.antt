@@ -3,15 +3,12 @@ use mathlib.Core.Path.{sym, _∙_}
 use borrow.Author.Needs.{needs}
 use Rattle.grid.specs.Layer.{layerOf, sizeOf}
 use Rattle.contour.proofs.Sets.{empty-set}
-use Rattle.sheet.proofs.BytesAnswered.{written-no}
+use Rattle.sheet.proofs.Answered.{written-no}
 use Rattle.sheet.proofs.write.write_sheet.Statement.{statement}
 use Rattle.sheet.proofs.write.write_sheet.Tie as tie
 
 ask-held-firsts-requires : tie.Need-ask-held-firsts-requires
 ask-held-firsts-requires c κs = empty-set
-
-enum-told : tie.Need-enum-told
-enum-told c = search needs
 
 write-held-requires : tie.Need-write-held-requires
 write-held-requires c κs =
@@ -19,15 +16,6 @@ write-held-requires c κs =
     let asked = told .before .before .ask-held-firsts .ensures in
     let yes = told .enum-told .given .1 in
     (sym (asked .0) ∙ yes, asked .1 yes)
-
-enum-known-answer : tie.Need-enum-known-answer
-enum-known-answer c = search needs
-
-same-length : tie.Need-same-length
-same-length c = search needs
-
-returns : tie.Need-returns
-returns c = search needs
 
 returns-2 : tie.Need-returns-2
 returns-2 c =
@@ -40,11 +28,5 @@ returns-2 c =
 pub write-sheet-spec : {M : Type 1} → statement M
 write-sheet-spec =
     tie.close
-    (tie.spec
-    ask-held-firsts-requires
-    enum-told
-    write-held-requires
-    enum-known-answer
-    same-length
-    returns
+    (tie.spec ask-held-firsts-requires (λ c. search needs) write-held-requires (λ c. search needs) (λ c. search needs) (λ c. search needs)
     returns-2)

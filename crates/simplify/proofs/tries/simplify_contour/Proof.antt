@@ -2,64 +2,35 @@
 use mathlib.Core.Path.{sym}
 use native.Mathlib.Omega.{arith}
 use borrow.Author.Needs.{needs}
+use Rattle.grid.specs.Layer.{layerOf}
+use Rattle.run.specs.Runs.{HasSticks}
 use Rattle.simplify.proofs.tries.simplify_contour.Statement.{statement}
 use Rattle.simplify.proofs.tries.simplify_contour.Tie as tie
 
-contour-length-requires : tie.Need-contour-length-requires
-contour-length-requires c κs = search needs
-
-put-marks-requires : tie.Need-put-marks-requires
-put-marks-requires c κs = search needs
-
-slice-aggregate-try-runs : tie.Need-slice-aggregate-try-runs
-slice-aggregate-try-runs c = sym (c .before .before .put-marks .ensures .0)
+-- the sticks of the contour are counted
+counted : (c : tie.After-contour-length) → let a = c .before .before .before .args in
+    HasSticks (layerOf (a .size) (a .bitmap .now)) (a .first) (c .contour-length .result)
+counted c =
+    let given = c .before .before .before .pre in
+    record { sound = given .sound; stick = given .stick; all = c .contour-length .ensures }
 
 try-runs-requires : tie.Need-try-runs-requires
 try-runs-requires c κs =
     let counting = c .before .before .before .before .before in
-    let given = counting .before .before .before .pre in
-    (given .0, (given .1 .0, (given .1 .1, (counting .contour-length .ensures, c .before .before .put-marks .ensures .1))))
-
-same-length : tie.Need-same-length
-same-length c = search needs
-
-returns : tie.Need-returns
-returns c = search needs
-
-sub-try-runs : tie.Need-sub-try-runs
-sub-try-runs c = search needs
-
-part-try-runs-start : tie.Need-part-try-runs-start
-part-try-runs-start c = search needs
-
-part-try-runs-end : tie.Need-part-try-runs-end
-part-try-runs-end c = search needs
+    record {
+      contour = counted counting;
+      exact = counting .before .before .before .pre .exact;
+      marked = c .before .before .put-marks .ensures .1;
+    }
 
 try-runs-requires-2 : tie.Need-try-runs-requires-2
 try-runs-requires-2 c κs =
     let counting = c .before .before .before .before in
-    let given = counting .before .before .before .pre in
-    (given .0, (given .1 .0, (given .1 .1, (counting .contour-length .ensures, λ k none. absurd (omega arith)))))
-
-same-length-2 : tie.Need-same-length-2
-same-length-2 c = search needs
-
-returns-2 : tie.Need-returns-2
-returns-2 c = search needs
+    record { contour = counted counting; exact = counting .before .before .before .pre .exact; marked = λ k none. absurd (omega arith) }
 
 pub simplify-contour-spec : {M : Type 1} → statement M
 simplify-contour-spec =
     tie.close
-    (tie.spec
-    contour-length-requires
-    put-marks-requires
-    slice-aggregate-try-runs
-    try-runs-requires
-    same-length
-    returns
-    sub-try-runs
-    part-try-runs-start
-    part-try-runs-end
-    try-runs-requires-2
-    same-length-2
-    returns-2)
+    (tie.spec (λ c κs. search needs) (λ c κs. search needs) (λ c. sym (c .before .before .put-marks .ensures .0)) try-runs-requires
+    (λ c. search needs) (λ c. search needs) (λ c. search needs) (λ c. search needs) (λ c. search needs) try-runs-requires-2
+    (λ c. search needs) (λ c. search needs))

@@ -13,12 +13,6 @@ use Rattle.slicing.proofs.Answers.{after-command, command-long, no-comm
 use Rattle.slicing.proofs.call.slice.Statement.{statement}
 use Rattle.slicing.proofs.call.slice.Tie as tie
 
-has-command-requires : tie.Need-has-command-requires
-has-command-requires c κs = search needs
-
-refuse-requires : tie.Need-refuse-requires
-refuse-requires c κs = search needs
-
 returns : tie.Need-returns
 returns c =
     let asked = c .before .before .before in
@@ -39,12 +33,6 @@ number-at-requires c κs = omega (arith, long c)
 number-at-requires-2 : tie.Need-number-at-requires-2
 number-at-requires-2 c κs = omega (arith, long (c .before))
 
-sides-fit-requires : tie.Need-sides-fit-requires
-sides-fit-requires c κs = search needs
-
-refuse-requires-2 : tie.Need-refuse-requires-2
-refuse-requires-2 c κs = search needs
-
 returns-2 : tie.Need-returns-2
 returns-2 c =
     let asked = c .before .before .before in
@@ -62,9 +50,6 @@ sub-slice-layer c = long (c .before .before .before .before)
 
 part-slice-layer-start : tie.Need-part-slice-layer-start
 part-slice-layer-start c = let enough = long (c .before .before .before .before) in search needs
-
-part-slice-layer-end : tie.Need-part-slice-layer-end
-part-slice-layer-end c = search needs
 
 slice-layer-requires : tie.Need-slice-layer-requires
 slice-layer-requires c κs =
@@ -88,17 +73,5 @@ returns-3 c =
 pub slice-spec : {M : Type 1} → statement M
 slice-spec =
     tie.close
-    (tie.spec
-    has-command-requires
-    refuse-requires
-    returns
-    number-at-requires
-    number-at-requires-2
-    sides-fit-requires
-    refuse-requires-2
-    returns-2
-    sub-slice-layer
-    part-slice-layer-start
-    part-slice-layer-end
-    slice-layer-requires
-    returns-3)
+    (tie.spec (λ c κs. search needs) (λ c κs. search needs) returns number-at-requires number-at-requires-2 (λ c κs. search needs)
+    (λ c κs. search needs) returns-2 sub-slice-layer part-slice-layer-start (λ c. search needs) slice-layer-requires returns-3)

@@ -8,11 +8,8 @@ use Rattle.slicing.proofs.command.has_command.Tie as tie
 returns : tie.Need-returns
 returns c = rw (lt-leb commandLength _ (c .if1 .taken))
 
-shared-slice-read-result : tie.Need-shared-slice-read-result
-shared-slice-read-result c = search needs
-
 returns-2 : tie.Need-returns-2
 returns-2 c = rw (le-leb commandLength _ (c .before .if1 .left))
 
 pub has-command-spec : {M : Type 1} → statement M
-has-command-spec = tie.close (tie.spec returns shared-slice-read-result returns-2)
+has-command-spec = tie.close (tie.spec returns (λ c. search needs) returns-2)

@@ -5,17 +5,11 @@ use borrow.Author.Tests.{not-true, not-false}
 use Rattle.slicing.proofs.command.sides_fit.Statement.{statement}
 use Rattle.slicing.proofs.command.sides_fit.Tie as tie
 
-side-fits-requires : tie.Need-side-fits-requires
-side-fits-requires c κs = search needs
-
 returns : tie.Need-returns
 returns c = rw (sym (c .before .side-fits .ensures) ∙ not-true _ (c .if1 .taken))
-
-side-fits-requires-2 : tie.Need-side-fits-requires-2
-side-fits-requires-2 c κs = search needs
 
 returns-2 : tie.Need-returns-2
 returns-2 c = rw (sym (c .before .before .side-fits .ensures) ∙ not-false _ (c .before .if1 .left)) (c .side-fits2 .ensures)
 
 pub sides-fit-spec : {M : Type 1} → statement M
-sides-fit-spec = tie.close (tie.spec side-fits-requires returns side-fits-requires-2 returns-2)
+sides-fit-spec = tie.close (tie.spec (λ c κs. search needs) returns (λ c κs. search needs) returns-2)

@@ -8,20 +8,8 @@ use Rattle.slicing.proofs.Bounds.{number-small}
 use Rattle.slicing.proofs.steps.refuse.Statement.{statement}
 use Rattle.slicing.proofs.steps.refuse.Tie as tie
 
-slice-write-output : tie.Need-slice-write-output
-slice-write-output c = search needs
-
-refusal-number-requires : tie.Need-refusal-number-requires
-refusal-number-requires c κs = search needs
-
 cast-output : tie.Need-cast-output
 cast-output c = omega (arith, number-small (c .before .before .args .question))
-
-slice-write-output-2 : tie.Need-slice-write-output-2
-slice-write-output-2 c = search needs
-
-same-length : tie.Need-same-length
-same-length c = search needs
 
 returns : tie.Need-returns
 returns c =
@@ -31,10 +19,4 @@ returns c =
 pub refuse-spec : {M : Type 1} → statement M
 refuse-spec =
     tie.close
-    (tie.spec
-    slice-write-output
-    refusal-number-requires
-    cast-output
-    slice-write-output-2
-    same-length
-    returns)
+    (tie.spec (λ c. search needs) (λ c κs. search needs) cast-output (λ c. search needs) (λ c. search needs) returns)

@@ -13,15 +13,6 @@ use Rattle.slicing.proofs.Accepting.{after-done}
 use Rattle.slicing.proofs.steps.slice_in.Statement.{statement}
 use Rattle.slicing.proofs.steps.slice_in.Tie as tie
 
-trace-requires : tie.Need-trace-requires
-trace-requires c κs = search needs
-
-enum-told : tie.Need-enum-told
-enum-told c = search needs
-
-thin-requires : tie.Need-thin-requires
-thin-requires c κs = search needs
-
 write-requires : tie.Need-write-requires
 write-requires c κs =
     let start = c .before .before .before .before .before .before .before .before .before .before .before .before .before .before .before in
@@ -33,18 +24,6 @@ write-requires c κs =
     let traced = traced-done L (trace .last .1 .1 .1 .0) (trace .result) (traceOf L (a .table .now)) (trace .ensures) (told .1) in
     let after = after-done L (a .table .now) (trace .last .1 .1 .1 .0) (thin .last .1 .1 .1 .0) traced (thin .ensures) (start .pre .0) in
     (after .0, omega (arith, after .1, start .pre .1))
-
-enum-known-traced : tie.Need-enum-known-traced
-enum-known-traced c = search needs
-
-refuse-requires : tie.Need-refuse-requires
-refuse-requires c κs = search needs
-
-same-length : tie.Need-same-length
-same-length c = search needs
-
-same-length-2 : tie.Need-same-length-2
-same-length-2 c = search needs
 
 returns : tie.Need-returns
 returns c =
@@ -58,12 +37,6 @@ returns c =
     ∙ ap (λ (t : List ℕ). stored (a .output .now) (sheetOf L t)) (thin .ensures)
     ∙ ap (stored (a .output .now))
     (bytes-done L (trace .last .1 .1 .1 .0) (trace .result) (traceOf L (a .table .now)) (trace .ensures) (told .1))
-
-same-length-3 : tie.Need-same-length-3
-same-length-3 c = search needs
-
-same-length-4 : tie.Need-same-length-4
-same-length-4 c = search needs
 
 returns-2 : tie.Need-returns-2
 returns-2 c =
@@ -79,16 +52,5 @@ returns-2 c =
 pub slice-in-spec : {M : Type 1} → statement M
 slice-in-spec =
     tie.close
-    (tie.spec
-    trace-requires
-    enum-told
-    thin-requires
-    write-requires
-    enum-known-traced
-    refuse-requires
-    same-length
-    same-length-2
-    returns
-    same-length-3
-    same-length-4
-    returns-2)
+    (tie.spec (λ c κs. search needs) (λ c. search needs) (λ c κs. search needs) write-requires (λ c. search needs) (λ c κs. search needs)
+    (λ c. search needs) (λ c. search needs) returns (λ c. search needs) (λ c. search needs) returns-2)

@@ -11,24 +11,6 @@ use Rattle.slicing.proofs.Answers.{first-zeros}
 use Rattle.slicing.proofs.steps.slice_layer.Statement.{statement}
 use Rattle.slicing.proofs.steps.slice_layer.Tie as tie
 
-entry-count-requires : tie.Need-entry-count-requires
-entry-count-requires c κs = search needs
-
-sub-slice-in : tie.Need-sub-slice-in
-sub-slice-in c = search needs
-
-part-table-start : tie.Need-part-table-start
-part-table-start c = search needs
-
-part-table-end : tie.Need-part-table-end
-part-table-end c = search needs
-
-slice-in-requires : tie.Need-slice-in-requires
-slice-in-requires c κs = search needs
-
-same-length : tie.Need-same-length
-same-length c = search needs
-
 returns : tie.Need-returns
 unfolding layerBytes
 returns c =
@@ -43,11 +25,5 @@ returns c =
 pub slice-layer-spec : {M : Type 1} → statement M
 slice-layer-spec =
     tie.close
-    (tie.spec
-    entry-count-requires
-    sub-slice-in
-    part-table-start
-    part-table-end
-    slice-in-requires
-    same-length
+    (tie.spec (λ c κs. search needs) (λ c. search needs) (λ c. search needs) (λ c. search needs) (λ c κs. search needs) (λ c. search needs)
     returns)

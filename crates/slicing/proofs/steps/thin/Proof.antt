@@ -5,15 +5,6 @@ use Rattle.slicing.proofs.Answers.{thinned-is}
 use Rattle.slicing.proofs.steps.thin.Statement.{statement}
 use Rattle.slicing.proofs.steps.thin.Tie as tie
 
-smooth-requires : tie.Need-smooth-requires
-smooth-requires c κs = search needs
-
-simplify-requires : tie.Need-simplify-requires
-simplify-requires c κs = search needs
-
-same-length : tie.Need-same-length
-same-length c = search needs
-
 returns : tie.Need-returns
 returns c =
     let simplify = c .before .before .simplify in
@@ -23,4 +14,4 @@ returns c =
     (smooth .result) (simplify .result) (smooth .ensures) (simplify .ensures)
 
 pub thin-spec : {M : Type 1} → statement M
-thin-spec = tie.close (tie.spec smooth-requires simplify-requires same-length returns)
+thin-spec = tie.close (tie.spec (λ c κs. search needs) (λ c κs. search needs) (λ c. search needs) returns)

@@ -5,18 +5,6 @@ use Rattle.slicing.proofs.Answers.{written-is, written-never}
 use Rattle.slicing.proofs.steps.write.Statement.{statement}
 use Rattle.slicing.proofs.steps.write.Tie as tie
 
-write-sheet-requires : tie.Need-write-sheet-requires
-write-sheet-requires c κs = search needs
-
-enum-known-written : tie.Need-enum-known-written
-enum-known-written c = search needs
-
-enum-told : tie.Need-enum-told
-enum-told c = search needs
-
-same-length : tie.Need-same-length
-same-length c = search needs
-
 returns : tie.Need-returns
 returns c =
     let start = c .before .before .before .before .before .before .before .before .before .before in
@@ -25,9 +13,6 @@ returns c =
     let told = c .before .written .given in
     written-is (layerOf (sizeOf (a .w) (a .h)) (a .bitmap .now)) (a .table .now) (a .output .now) _
     (sheet .result) (start .pre .0) (start .pre .1) (sheet .ensures) (told .0 .0) (told .1)
-
-same-length-2 : tie.Need-same-length-2
-same-length-2 c = search needs
 
 returns-2 : tie.Need-returns-2
 returns-2 c =
@@ -41,11 +26,4 @@ returns-2 c =
 pub write-spec : {M : Type 1} → statement M
 write-spec =
     tie.close
-    (tie.spec
-    write-sheet-requires
-    enum-known-written
-    enum-told
-    same-length
-    returns
-    same-length-2
-    returns-2)
+    (tie.spec (λ c κs. search needs) (λ c. search needs) (λ c. search needs) (λ c. search needs) returns (λ c. search needs) returns-2)

@@ -11,55 +11,39 @@ use Rattle.smooth.proofs.Division.{above-exact, above-times, rounded-of
 use Rattle.smooth.proofs.offset.rounded_of.Statement.{statement}
 use Rattle.smooth.proofs.offset.rounded_of.Tie as tie
 
-mul-nearest-div : tie.Need-mul-nearest-div
-mul-nearest-div c = in-range (search sized depth 9) tt
-
-cast-nearest-div : tie.Need-cast-nearest-div
-cast-nearest-div c = search needs
+small : (c : tie.Start) → c .args .old ≤ 255
+small c = omega (arith, c .fits .old)
 
 mul-nearest-div-2 : tie.Need-mul-nearest-div-2
-mul-nearest-div-2 c =
-    let small : c .args .old ≤ 255 = omega (arith, c .fits .old) in
-    in-range (search sized depth 9) tt
-
-mul-nearest-div-3 : tie.Need-mul-nearest-div-3
-mul-nearest-div-3 c = in-range (search sized depth 9) tt
+mul-nearest-div-2 c = let old-size = small c in in-range (search sized depth 9) tt
 
 add-nearest-div : tie.Need-add-nearest-div
-add-nearest-div c =
-    let small : c .args .old ≤ 255 = omega (arith, c .fits .old) in
-    in-range (search sized depth 9) tt
-
-mul-nearest-div-4 : tie.Need-mul-nearest-div-4
-mul-nearest-div-4 c = in-range (search sized depth 9) tt
+add-nearest-div c = let old-size = small c in in-range (search sized depth 9) tt
 
 nearest-div-requires : tie.Need-nearest-div-requires
 nearest-div-requires c κs =
-    let small : c .args .old ≤ 255 = omega (arith, c .fits .old) in
-    (within (search sized depth 9) tt, (within (search sized depth 9) tt, above-exact (search sized depth 9) tt (above-times 5 (omega arith) (c .args .d) (c .pre .1 .1))))
+    let old-size = small c in
+    record {
+      n-size = within (search sized depth 9) tt;
+      d-size = within (search sized depth 9) tt;
+      above = above-exact (search sized depth 9) tt (above-times 5 (omega arith) (c .args .d) (c .pre .above));
+    }
 
 returns : tie.Need-returns
 returns c =
     let a = c .before .args in
     let given = c .before .pre in
-    let small : a .old ≤ 255 = omega (arith, c .before .fits .old) in
+    let old-size = small (c .before) in
     let r-size = c .nearest-div .ensures .1 in
     let back = exact {z = toZ w64 (ofZ w64 (c .nearest-div .result))} (search sized depth 9) tt in
     let is =
     c .nearest-div .ensures .0
-    ∙ rounded-of {y = toZ w64 (ofZ w64 (pos 5 *ℤ toZ w64 (ofZ w64 (a .d))))} (a .old) (a .n) (a .d) (given .1 .1)
+    ∙ rounded-of {y = toZ w64 (ofZ w64 (pos 5 *ℤ toZ w64 (ofZ w64 (a .d))))} (a .old) (a .n) (a .d) (given .above)
     (exact (search sized depth 9) tt) (exact (search sized depth 9) tt) in
     (back ∙ is, rw back r-size)
 
 pub rounded-of-spec : {M : Type 1} → statement M
 rounded-of-spec =
     tie.close
-    (tie.spec
-    mul-nearest-div
-    cast-nearest-div
-    mul-nearest-div-2
-    mul-nearest-div-3
-    add-nearest-div
-    mul-nearest-div-4
-    nearest-div-requires
-    returns)
+    (tie.spec (λ c. in-range (search sized depth 9) tt) (λ c. search needs) mul-nearest-div-2 (λ c. in-range (search sized depth 9) tt)
+    add-nearest-div (λ c. in-range (search sized depth 9) tt) nearest-div-requires returns)

@@ -8,102 +8,42 @@ use Rattle.arith.proofs.Bounds.{sized, in-range, exact, within}
 use Rattle.smooth.proofs.offset.shift_of.Statement.{statement}
 use Rattle.smooth.proofs.offset.shift_of.Tie as tie
 
-along-of-requires : tie.Need-along-of-requires
-along-of-requires c κs = search needs
-
-signed-requires : tie.Need-signed-requires
-signed-requires c κs = search needs
-
-base-of-requires : tie.Need-base-of-requires
-base-of-requires c κs = search needs
-
-signed-requires-2 : tie.Need-signed-requires-2
-signed-requires-2 c κs = search needs
-
-sub-ahead : tie.Need-sub-ahead
-sub-ahead c = in-range (search sized depth 9) tt
-
-cast-ahead : tie.Need-cast-ahead
-cast-ahead c = search needs
+small : (c : tie.Start) → c .args .old ≤ 255
+small c = omega (arith, c .fits .old)
 
 sub-ahead-2 : tie.Need-sub-ahead-2
-sub-ahead-2 c =
-    let small : c .before .before .before .before .args .old ≤ 255 = omega (arith, c .before .before .before .before .fits .old) in
-    in-range (search sized depth 9) tt
+sub-ahead-2 c = let old-size = small (c .before .before .before .before) in in-range (search sized depth 9) tt
 
-along-of-requires-2 : tie.Need-along-of-requires-2
-along-of-requires-2 c κs = search needs
-
-signed-requires-3 : tie.Need-signed-requires-3
-signed-requires-3 c κs = search needs
-
-sub-turn : tie.Need-sub-turn
-sub-turn c = in-range (search sized depth 9) tt
-
-line-of-requires : tie.Need-line-of-requires
-line-of-requires c κs = search needs
-
-signed-requires-4 : tie.Need-signed-requires-4
-signed-requires-4 c κs = search needs
-
-across-of-requires : tie.Need-across-of-requires
-across-of-requires c κs = search needs
-
-signed-requires-5 : tie.Need-signed-requires-5
-signed-requires-5 c κs = search needs
-
-sub-before : tie.Need-sub-before
-sub-before c = in-range (search sized depth 9) tt
-
-spread-of-requires : tie.Need-spread-of-requires
-spread-of-requires c κs = search needs
+abbrev start : tie.After-spread-of → tie.Start
+start c = c .before .before .before .before .before .before .before .before .before .before .before
 
 mul-result : tie.Need-mul-result
-mul-result c =
-    let small : c .before .before .before .before .before .before .before .before .before .before .before .args .old ≤ 255 = omega (arith, c .before .before .before .before .before .before .before .before .before .before .before .fits .old) in
-    in-range (search sized depth 9) tt
-
-mul-result-2 : tie.Need-mul-result-2
-mul-result-2 c = in-range (search sized depth 9) tt
+mul-result c = let old-size = small (start c) in in-range (search sized depth 9) tt
 
 add-result : tie.Need-add-result
-add-result c =
-    let small : c .before .before .before .before .before .before .before .before .before .before .before .args .old ≤ 255 = omega (arith, c .before .before .before .before .before .before .before .before .before .before .before .fits .old) in
-    in-range (search sized depth 9) tt
+add-result c = let old-size = small (start c) in in-range (search sized depth 9) tt
 
 returns : tie.Need-returns
 returns c =
-    let a = c .before .before .before .before .before .before .before .before .before .before .before .args in
-    let small : a .old ≤ 255 = omega (arith, c .before .before .before .before .before .before .before .before .before .before .before .fits .old) in
-    let u = c .before .before .before .before .before .before .before .before .before .signed .ensures .0 ∙ ap pos (c .before .before .before .before .before .before .before .before .before .before .along-of .ensures .0) in
-    let o = c .before .before .before .before .before .before .before .signed2 .ensures .0 ∙ ap pos (c .before .before .before .before .before .before .before .before .base-of .ensures .0) in
-    let w = c .before .before .before .before .before .signed3 .ensures .0 ∙ ap pos (c .before .before .before .before .before .before .along-of2 .ensures .0) in
-    let l = c .before .before .before .signed4 .ensures .0 ∙ ap pos (c .before .before .before .before .line-of .ensures .0) in
-    let s = c .before .signed5 .ensures .0 ∙ ap pos (c .before .before .across-of .ensures .0) in
+    let old = start c .args .old in
+    let old-size = small (start c) in
+    let across-p = c .before in
+    let line = across-p .before .before in
+    let along-q = line .before .before in
+    let base = along-q .before .before in
+    let along-p = base .before .before in
+    let u = along-p .signed .ensures .0 ∙ ap pos (along-p .before .along-of .ensures .0) in
+    let o = base .signed2 .ensures .0 ∙ ap pos (base .before .base-of .ensures .0) in
+    let w = along-q .signed3 .ensures .0 ∙ ap pos (along-q .before .along-of2 .ensures .0) in
+    let l = line .signed4 .ensures .0 ∙ ap pos (line .before .line-of .ensures .0) in
+    let s = across-p .signed5 .ensures .0 ∙ ap pos (across-p .before .across-of .ensures .0) in
     let d = c .spread-of .ensures .0 in
-    (exact (search sized depth 14) tt ∙ (λ i. (u i -ℤ o i -ℤ pos (a .old)) *ℤ d i +ℤ (w i -ℤ u i) *ℤ (l i -ℤ s i)), within (search sized depth 14) tt)
+    (exact (search sized depth 14) tt ∙ (λ i. (u i -ℤ o i -ℤ pos old) *ℤ d i +ℤ (w i -ℤ u i) *ℤ (l i -ℤ s i)), within (search sized depth 14) tt)
 
 pub shift-of-spec : {M : Type 1} → statement M
 shift-of-spec =
     tie.close
-    (tie.spec
-    along-of-requires
-    signed-requires
-    base-of-requires
-    signed-requires-2
-    sub-ahead
-    cast-ahead
-    sub-ahead-2
-    along-of-requires-2
-    signed-requires-3
-    sub-turn
-    line-of-requires
-    signed-requires-4
-    across-of-requires
-    signed-requires-5
-    sub-before
-    spread-of-requires
-    mul-result
-    mul-result-2
-    add-result
-    returns)
+    (tie.spec (λ c κs. search needs) (λ c κs. search needs) (λ c κs. search needs) (λ c κs. search needs)
+    (λ c. in-range (search sized depth 9) tt) (λ c. search needs) sub-ahead-2 (λ c κs. search needs) (λ c κs. search needs)
+    (λ c. in-range (search sized depth 9) tt) (λ c κs. search needs) (λ c κs. search needs) (λ c κs. search needs) (λ c κs. search needs)
+    (λ c. in-range (search sized depth 9) tt) (λ c κs. search needs) mul-result (λ c. in-range (search sized depth 9) tt) add-result returns)

@@ -6,11 +6,8 @@ use Rattle.smooth.proofs.Division.{with-size}
 use Rattle.smooth.proofs.offset.signed.Statement.{statement}
 use Rattle.smooth.proofs.offset.signed.Tie as tie
 
-cast-result : tie.Need-cast-result
-cast-result c = search needs
-
 returns : tie.Need-returns
 returns c = with-size (pos (c .args .n)) (exact (search sized depth 9) tt) (c .pre)
 
 pub signed-spec : {M : Type 1} → statement M
-signed-spec = tie.close (tie.spec cast-result returns)
+signed-spec = tie.close (tie.spec (λ c. search needs) returns)

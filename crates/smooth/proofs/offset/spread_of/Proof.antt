@@ -6,21 +6,6 @@ use Rattle.arith.proofs.Bounds.{sized, in-range, exact, within}
 use Rattle.smooth.proofs.offset.spread_of.Statement.{statement}
 use Rattle.smooth.proofs.offset.spread_of.Tie as tie
 
-across-of-requires : tie.Need-across-of-requires
-across-of-requires c κs = search needs
-
-signed-requires : tie.Need-signed-requires
-signed-requires c κs = search needs
-
-across-of-requires-2 : tie.Need-across-of-requires-2
-across-of-requires-2 c κs = search needs
-
-signed-requires-2 : tie.Need-signed-requires-2
-signed-requires-2 c κs = search needs
-
-sub-result : tie.Need-sub-result
-sub-result c = in-range (search sized depth 9) tt
-
 returns : tie.Need-returns
 returns c =
     let a = c .before .before .before .before .args in
@@ -31,10 +16,5 @@ returns c =
 pub spread-of-spec : {M : Type 1} → statement M
 spread-of-spec =
     tie.close
-    (tie.spec
-    across-of-requires
-    signed-requires
-    across-of-requires-2
-    signed-requires-2
-    sub-result
-    returns)
+    (tie.spec (λ c κs. search needs) (λ c κs. search needs) (λ c κs. search needs) (λ c κs. search needs)
+    (λ c. in-range (search sized depth 9) tt) returns)

@@ -1,68 +1,51 @@
--- `smooth` meets its contract.
-use mathlib.Core.Path.{sym, _∙_}
+-- `smooth` meets its contract: by the answer to its questions.
+use mathlib.Core.Path.{_≡_, sym, _∙_}
 use borrow.Author.Needs.{needs}
 use Rattle.grid.specs.Layer.{layerOf, sizeOf}
-use Rattle.grid.specs.declared.question.Answer.the-variants.{Yes, No}
+use Rattle.grid.specs.Questions.{firstNo}
+use Rattle.grid.specs.declared.question.Answer.the-variants.{Yes}
 use Rattle.contour.proofs.Sets.{empty-set}
-use Rattle.smooth.proofs.Held.{ready-of, outcome-is}
+use Rattle.held.specs.Questions.{keptQuestions}
+use Rattle.smooth.specs.Smooth.{Smoothable}
+use Rattle.smooth.proofs.Held.{smoothable-of, outcome-done, outcome-refused}
 use Rattle.smooth.proofs.smoothing.smooth.Statement.{statement}
 use Rattle.smooth.proofs.smoothing.smooth.Tie as tie
 
-ask-kept-firsts-requires : tie.Need-ask-kept-firsts-requires
-ask-kept-firsts-requires c κs = empty-set
+abbrev start : tie.After-ask-kept-firsts → tie.Start
+start c = c .before .before .before .before .before
 
-enum-told : tie.Need-enum-told
-enum-told c = search needs
+-- the questions are answered yes
+yes : (c : tie.After-enum-told)
+    → let a = start (c .before .before) .args in
+    firstNo (keptQuestions (layerOf (sizeOf (a .w) (a .h)) (a .bitmap .now)) (a .table .now)) ≡ Yes
+yes c = sym (c .before .before .ask-kept-firsts .ensures .0) ∙ c .enum-told .given .1
 
-stick-count-requires : tie.Need-stick-count-requires
-stick-count-requires c κs =
-    let a = c .before .before .before .before .before .before .before .args in
-    let L = layerOf (sizeOf (a .w) (a .h)) (a .bitmap .now) in
-    ready-of L (a .table .now) (sym (c .before .before .ask-kept-firsts .ensures .0) ∙ c .enum-told .given .1) .sound
+given : (c : tie.After-enum-told)
+    → let a = start (c .before .before) .args in Smoothable (layerOf (sizeOf (a .w) (a .h)) (a .bitmap .now)) (a .table .now)
+given c =
+    let a = start (c .before .before) .args in smoothable-of (layerOf (sizeOf (a .w) (a .h)) (a .bitmap .now)) (a .table .now) (yes c)
 
 smooth-until-requires : tie.Need-smooth-until-requires
 smooth-until-requires c κs =
-    let a = c .before .before .before .before .before .before .before .before .before .before .args in
-    let L = layerOf (sizeOf (a .w) (a .h)) (a .bitmap .now) in
-    let asked = c .before .before .before .before .before .ask-kept-firsts .ensures in
-    let yes = c .before .before .before .enum-told .given .1 in
-    (ready-of L (a .table .now) (sym (asked .0) ∙ yes), (asked .1 yes, c .before .before .stick-count .ensures))
-
-enum-known-answer : tie.Need-enum-known-answer
-enum-known-answer c = search needs
-
-same-length : tie.Need-same-length
-same-length c = search needs
+    let told = c .before .before .before in
+    (given told, (told .before .before .ask-kept-firsts .ensures .1 (told .enum-told .given .1), c .before .before .stick-count .ensures))
 
 returns : tie.Need-returns
 returns c =
     let run = c .before .before in
-    let start = run .before .before .before .before in
-    let a = start .before .before .before .before .before .before .before .args in
-    let L = layerOf (sizeOf (a .w) (a .h)) (a .bitmap .now) in
-    let yes = sym (start .before .before .ask-kept-firsts .ensures .0) ∙ start .enum-told .given .1 in
-    run .smooth-until .ensures ∙ sym (outcome-is L (a .limit) (a .table .now) Yes yes)
-
-same-length-2 : tie.Need-same-length-2
-same-length-2 c = search needs
+    let told = run .before .before .before .before in
+    let a = start (told .before .before) .args in
+    outcome-done (layerOf (sizeOf (a .w) (a .h)) (a .bitmap .now)) (a .limit) (a .table .now) (yes told) (run .smooth-until .ensures)
 
 returns-2 : tie.Need-returns-2
 returns-2 c =
-    let a = c .before .before .before .before .before .before .before .before .args in
-    let L = layerOf (sizeOf (a .w) (a .h)) (a .bitmap .now) in
-    let answer = c .before .answer in
-    sym (outcome-is L (a .limit) (a .table .now) (No (answer .given .0 .0) (answer .given .0 .1 .0)) (sym (c .before .before .before .ask-kept-firsts .ensures .0) ∙ answer .given .1))
+    let asked = c .before .before .before in
+    let a = start asked .args in
+    outcome-refused (layerOf (sizeOf (a .w) (a .h)) (a .bitmap .now)) (a .limit) (a .table .now)
+    (sym (asked .ask-kept-firsts .ensures .0) ∙ c .before .answer .given .1)
 
 pub smooth-spec : {M : Type 1} → statement M
 smooth-spec =
     tie.close
-    (tie.spec
-    ask-kept-firsts-requires
-    enum-told
-    stick-count-requires
-    smooth-until-requires
-    enum-known-answer
-    same-length
-    returns
-    same-length-2
-    returns-2)
+    (tie.spec (λ c κs. empty-set) (λ c. search needs) (λ c κs. given c .sound) smooth-until-requires (λ c. search needs)
+    (λ c. search needs) returns (λ c. search needs) returns-2)

@@ -5,24 +5,6 @@ use Rattle.step.specs.Cells.{edgeOn}
 use Rattle.step.proofs.cell.edge_of.Statement.{statement}
 use Rattle.step.proofs.cell.edge_of.Tie as tie
 
-enum-told : tie.Need-enum-told
-enum-told c = search needs
-
-enum-told-2 : tie.Need-enum-told-2
-enum-told-2 c = search needs
-
-add-t4 : tie.Need-add-t4
-add-t4 c = search needs
-
-enum-told-3 : tie.Need-enum-told-3
-enum-told-3 c = search needs
-
-add-t5 : tie.Need-add-t5
-add-t5 c = search needs
-
-enum-told-4 : tie.Need-enum-told-4
-enum-told-4 c = search needs
-
 returns : tie.Need-returns
 returns c = let p = c .before .before .args .p in sym (ap (edgeOn (p .column) (p .row)) (c .enum-told .given .1))
 
@@ -40,14 +22,5 @@ returns-4 c = let p = c .before .before .args .p in sym (ap (edgeOn (p .column) 
 pub edge-of-spec : {M : Type 1} → statement M
 edge-of-spec =
     tie.close
-    (tie.spec
-    enum-told
-    enum-told-2
-    add-t4
-    enum-told-3
-    add-t5
-    enum-told-4
-    returns
-    returns-2
-    returns-3
-    returns-4)
+    (tie.spec (λ c. search needs) (λ c. search needs) (λ c. search needs) (λ c. search needs) (λ c. search needs) (λ c. search needs)
+    returns returns-2 returns-3 returns-4)

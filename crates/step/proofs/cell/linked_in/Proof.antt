@@ -7,12 +7,6 @@ use Rattle.step.proofs.Links.{sideIndex-below}
 use Rattle.step.proofs.cell.linked_in.Statement.{statement}
 use Rattle.step.proofs.cell.linked_in.Tie as tie
 
-array-read-side-at : tie.Need-array-read-side-at
-array-read-side-at c = search needs
-
-side-index-requires : tie.Need-side-index-requires
-side-index-requires c κs = search needs
-
 small : (c : tie.After-side-index) → c .side-index .result < 4
 small c = rw (c .side-index .ensures) (sideIndex-below (c .before .args .side))
 
@@ -25,20 +19,10 @@ cast-side-at c = omega (arith, small c)
 shr-side-at : tie.Need-shr-side-at
 shr-side-at c = omega (arith, small c)
 
-side-at-requires : tie.Need-side-at-requires
-side-at-requires c κs = search needs
-
 returns : tie.Need-returns
 returns c = rw (c .before .side-index .ensures) at (c .side-at .ensures)
 
 pub linked-in-spec : {M : Type 1} → statement M
 linked-in-spec =
     tie.close
-    (tie.spec
-    array-read-side-at
-    side-index-requires
-    mul-side-at
-    cast-side-at
-    shr-side-at
-    side-at-requires
-    returns)
+    (tie.spec (λ c. search needs) (λ c κs. search needs) mul-side-at cast-side-at shr-side-at (λ c κs. search needs) returns)

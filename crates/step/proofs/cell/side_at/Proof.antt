@@ -7,15 +7,6 @@ use Rattle.step.specs.declared.cell.Side.the-variants.{West}
 use Rattle.step.proofs.cell.side_at.Statement.{statement}
 use Rattle.step.proofs.cell.side_at.Tie as tie
 
-returns : tie.Need-returns
-returns c = search needs
-
-returns-2 : tie.Need-returns-2
-returns-2 c = search needs
-
-returns-3 : tie.Need-returns-3
-returns-3 c = search needs
-
 last : (n : ℕ) → (n ≡ 0 → ⊥) → (n ≡ 1 → ⊥) → (n ≡ 2 → ⊥) → West ≡ sideAt n
 last zero a b d = absurd (a refl)
 last (suc zero) a b d = absurd (b refl)
@@ -26,4 +17,4 @@ returns-4 : tie.Need-returns-4
 returns-4 c = let r = c .match .rest in last (c .before .args .n) (r .0 .0 .1) (r .0 .1) (r .1)
 
 pub side-at-spec : {M : Type 1} → statement M
-side-at-spec = tie.close (tie.spec returns returns-2 returns-3 returns-4)
+side-at-spec = tie.close (tie.spec (λ c. search needs) (λ c. search needs) (λ c. search needs) returns-4)

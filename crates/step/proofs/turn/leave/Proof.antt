@@ -5,14 +5,8 @@ use Rattle.step.specs.Cells.{edgeOn}
 use Rattle.step.proofs.turn.leave.Statement.{statement}
 use Rattle.step.proofs.turn.leave.Tie as tie
 
-linked-in-requires : tie.Need-linked-in-requires
-linked-in-requires c κs = search needs
-
-edge-of-requires : tie.Need-edge-of-requires
-edge-of-requires c κs = search needs
-
 returns : tie.Need-returns
 returns c = let a = c .before .before .args in c .edge-of .ensures ∙ ap (edgeOn (a .column) (a .row)) (c .before .linked-in .ensures)
 
 pub leave-spec : {M : Type 1} → statement M
-leave-spec = tie.close (tie.spec linked-in-requires edge-of-requires returns)
+leave-spec = tie.close (tie.spec (λ c κs. search needs) (λ c κs. search needs) returns)

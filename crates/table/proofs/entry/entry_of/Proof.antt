@@ -13,9 +13,6 @@ returns : tie.Need-returns
 unfolding entryOf
 returns c = rw (eq-eqb (c .before .args .n) 0 (c .if1 .taken))
 
-cast-t4 : tie.Need-cast-t4
-cast-t4 c = search needs
-
 returns-2 : tie.Need-returns-2
 unfolding entryOf
 returns-2 c =
@@ -28,9 +25,6 @@ unfolding entryOf
 returns-3 c =
     let start = c .before .before .before in
     rw (ne-eqb (start .args .n) 0 (c .before .before .if1 .left), lt-leb (start .args .n) 255 (c .before .if2 .left), lt-leb 257 (start .args .n) (c .if3 .taken))
-
-cast-t6 : tie.Need-cast-t6
-cast-t6 c = search needs
 
 returns-4 : tie.Need-returns-4
 unfolding entryOf
@@ -47,4 +41,4 @@ returns-5 c =
 
 pub entry-of-spec : {M : Type 1} → statement M
 entry-of-spec =
-    tie.close (tie.spec returns cast-t4 returns-2 returns-3 cast-t6 returns-4 returns-5)
+    tie.close (tie.spec returns (λ c. search needs) returns-2 returns-3 (λ c. search needs) returns-4 returns-5)

@@ -7,21 +7,6 @@ use Rattle.table.specs.declared.entry.Entry.{Entry}
 use Rattle.table.proofs.entry.is_wrong.Statement.{statement}
 use Rattle.table.proofs.entry.is_wrong.Tie as tie
 
-entry-of-requires : tie.Need-entry-of-requires
-entry-of-requires c κs = search needs
-
-enum-told : tie.Need-enum-told
-enum-told c = search needs
-
-enum-told-2 : tie.Need-enum-told-2
-enum-told-2 c = search needs
-
-enum-told-3 : tie.Need-enum-told-3
-enum-told-3 c = search needs
-
-enum-told-4 : tie.Need-enum-told-4
-enum-told-4 c = search needs
-
 returns : tie.Need-returns
 returns c =
     let start = c .before .before .before in
@@ -39,13 +24,5 @@ returns-4 c = ap (λ (e : Entry). not (suits (c .before .before .before .args .s
 pub is-wrong-spec : {M : Type 1} → statement M
 is-wrong-spec =
     tie.close
-    (tie.spec
-    entry-of-requires
-    enum-told
-    enum-told-2
-    enum-told-3
-    enum-told-4
-    returns
-    returns-2
-    returns-3
-    returns-4)
+    (tie.spec (λ c κs. search needs) (λ c. search needs) (λ c. search needs) (λ c. search needs) (λ c. search needs) returns returns-2
+    returns-3 returns-4)

@@ -20,23 +20,8 @@ Inv-loop table count k₀ k = (k ≤ count) × ((j : ℕ) → j < k → isRemove
 abbrev μ-loop : tie.MeasureT-loop
 μ-loop table count k₀ k = count - k
 
-edge-count-requires : tie.Need-edge-count-requires Inv-loop μ-loop
-edge-count-requires c κs = search needs
-
 loop-holds : tie.Need-loop-holds Inv-loop μ-loop
 loop-holds c = (omega arith, λ j h. absurd (omega arith))
-
-mul-entry-of : tie.Need-mul-entry-of Inv-loop μ-loop
-mul-entry-of c = search needs
-
-shared-slice-read-entry-of : tie.Need-shared-slice-read-entry-of Inv-loop μ-loop
-shared-slice-read-entry-of c = search needs
-
-entry-of-requires : tie.Need-entry-of-requires Inv-loop μ-loop
-entry-of-requires c κs = search needs
-
-is-removed-requires : tie.Need-is-removed-requires Inv-loop μ-loop
-is-removed-requires c κs = search needs
 
 tested : (c : tie.After-is-removed Inv-loop μ-loop)
     → isRemovedAt (c .before .before .before .before .before .before .before .args .table .now) (c .before .before .before .before .loop .k) ≡ c .is-removed .result
@@ -50,12 +35,6 @@ returns c =
     let whole = c .before .before .before .before .before .before .edge-count .ensures in
     each-no SomeRemoved (isRemovedAt (start .args .table .now)) (edgeCount (start .args .size)) (loop .k) (omega arith)
     (tested (c .before) ∙ c .if1 .taken) (loop .inv .1)
-
-add-k : tie.Need-add-k Inv-loop μ-loop
-add-k c = search needs
-
-loop-less : tie.Need-loop-less Inv-loop μ-loop
-loop-less c = search needs
 
 loop-again : tie.Need-loop-again Inv-loop μ-loop
 loop-again c =
@@ -71,17 +50,5 @@ returns-2 c =
 pub ask-all-kept-spec : {M : Type 1} → statement M
 ask-all-kept-spec =
     tie.close
-    (tie.spec
-    Inv-loop
-    μ-loop
-    edge-count-requires
-    loop-holds
-    mul-entry-of
-    shared-slice-read-entry-of
-    entry-of-requires
-    is-removed-requires
-    returns
-    add-k
-    loop-less
-    loop-again
-    returns-2)
+    (tie.spec Inv-loop μ-loop (λ c κs. search needs) loop-holds (λ c. search needs) (λ c. search needs) (λ c κs. search needs)
+    (λ c κs. search needs) returns (λ c. search needs) (λ c. search needs) loop-again returns-2)

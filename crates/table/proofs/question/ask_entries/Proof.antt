@@ -16,12 +16,6 @@ use Rattle.table.proofs.Runs.{kind-before, kind-found}
 use Rattle.table.proofs.question.ask_entries.Statement.{statement}
 use Rattle.table.proofs.question.ask_entries.Tie as tie
 
-kind-start-requires : tie.Need-kind-start-requires
-kind-start-requires c κs = search needs
-
-wrong-of-kind-requires : tie.Need-wrong-of-kind-requires
-wrong-of-kind-requires c κs = search needs
-
 returns : tie.Need-returns
 unfolding entriesAnswer
 returns c =
@@ -29,7 +23,7 @@ returns c =
     let L = layerOf (a .size) (a .bitmap .now) in
     let given = c .before .before .before .before .before .pre in
     let t = a .table .now in
-    let sized = given .0 .whole .sized in
+    let sized = given .sound .whole .sized in
     let split = edges-split (a .size) sized in
     let start = c .before .before .kind-start .ensures in
     let low = c .before .wrong-of-kind .ensures in
@@ -38,25 +32,19 @@ returns c =
     (rw zero-add at (kind-found L t sized false (c .before .wrong-of-kind .result) low within))
     (λ j h. rw zero-add at (kind-before L t sized false j (rw low at h)))
 
-wrong-of-kind-requires-2 : tie.Need-wrong-of-kind-requires-2
-wrong-of-kind-requires-2 c κs = search needs
-
 add-n : tie.Need-add-n
 add-n c =
     let a = c .before .before .before .before .before .before .args in
     let L = layerOf (a .size) (a .bitmap .now) in
     let given = c .before .before .before .before .before .before .pre in
     let t = a .table .now in
-    let sized = given .0 .whole .sized in
+    let sized = given .sound .whole .sized in
     let split = edges-split (a .size) sized in
     let start = c .before .before .before .kind-start .ensures in
     let low = c .before .before .wrong-of-kind .ensures in
     let high = c .wrong-of-kind2 .ensures in
     let most = leastFrom-le (wrongOf L t true) 0 (edgeRows (a .size) true * edgeColumns (a .size) true) in
     omega (arith, edges-small (a .size) sized)
-
-edge-count-requires : tie.Need-edge-count-requires
-edge-count-requires c κs = search needs
 
 returns-2 : tie.Need-returns-2
 unfolding entriesAnswer
@@ -66,7 +54,7 @@ returns-2 c =
     let L = layerOf (a .size) (a .bitmap .now) in
     let given = c .before .before .before .before .before .before .before .before .pre in
     let t = a .table .now in
-    let sized = given .0 .whole .sized in
+    let sized = given .sound .whole .sized in
     let split = edges-split (a .size) sized in
     let start = c .before .before .before .before .before .kind-start .ensures in
     let low = c .before .before .before .before .wrong-of-kind .ensures in
@@ -87,7 +75,7 @@ returns-3 c =
     let L = layerOf (a .size) (a .bitmap .now) in
     let given = c .before .before .before .before .before .before .before .before .pre in
     let t = a .table .now in
-    let sized = given .0 .whole .sized in
+    let sized = given .sound .whole .sized in
     let split = edges-split (a .size) sized in
     let start = c .before .before .before .before .before .kind-start .ensures in
     let low = c .before .before .before .before .wrong-of-kind .ensures in
@@ -101,12 +89,4 @@ returns-3 c =
 pub ask-entries-spec : {M : Type 1} → statement M
 ask-entries-spec =
     tie.close
-    (tie.spec
-    kind-start-requires
-    wrong-of-kind-requires
-    returns
-    wrong-of-kind-requires-2
-    add-n
-    edge-count-requires
-    returns-2
-    returns-3)
+    (tie.spec (λ c κs. search needs) (λ c κs. search needs) returns (λ c κs. search needs) add-n (λ c κs. search needs) returns-2 returns-3)

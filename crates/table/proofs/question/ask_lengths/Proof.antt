@@ -9,15 +9,6 @@ use Rattle.grid.proofs.Answers.{first-only, append-no, append-yes, sound-of}
 use Rattle.table.proofs.question.ask_lengths.Statement.{statement}
 use Rattle.table.proofs.question.ask_lengths.Tie as tie
 
-ask-layer-requires : tie.Need-ask-layer-requires
-ask-layer-requires c κs = search needs
-
-enum-told : tie.Need-enum-told
-enum-told c = search needs
-
-enum-told-2 : tie.Need-enum-told-2
-enum-told-2 c = search needs
-
 returns : tie.Need-returns
 returns c =
     let start = c .before .before .before .before in
@@ -42,4 +33,4 @@ returns-2 c =
 pub ask-lengths-spec : {M : Type 1} → statement M
 ask-lengths-spec =
     tie.close
-    (tie.spec ask-layer-requires enum-told enum-told-2 returns ask-table-length-requires returns-2)
+    (tie.spec (λ c κs. search needs) (λ c. search needs) (λ c. search needs) returns ask-table-length-requires returns-2)

@@ -6,9 +6,6 @@ use Rattle.table.specs.Entries.{tableLengthAnswer}
 use Rattle.table.proofs.question.ask_table_length.Statement.{statement}
 use Rattle.table.proofs.question.ask_table_length.Tie as tie
 
-edge-count-requires : tie.Need-edge-count-requires
-edge-count-requires c κs = search needs
-
 returns : tie.Need-returns
 unfolding tableLengthAnswer
 returns c = rw (eq-eqb _ _ (rw (c .before .edge-count .ensures) at (c .if1 .taken)))
@@ -18,4 +15,4 @@ unfolding tableLengthAnswer
 returns-2 c = rw (ne-eqb _ _ (rw (c .before .edge-count .ensures) at (c .if1 .left)))
 
 pub ask-table-length-spec : {M : Type 1} → statement M
-ask-table-length-spec = tie.close (tie.spec edge-count-requires returns returns-2)
+ask-table-length-spec = tie.close (tie.spec (λ c κs. search needs) returns returns-2)

@@ -21,24 +21,6 @@ abbrev μ-loop : tie.MeasureT-loop
 loop-holds : tie.Need-loop-holds Inv-loop μ-loop
 loop-holds c = (omega arith, λ k h. absurd (omega arith))
 
-cast-is-wrong : tie.Need-cast-is-wrong Inv-loop μ-loop
-cast-is-wrong c = search needs
-
-shr-is-wrong : tie.Need-shr-is-wrong Inv-loop μ-loop
-shr-is-wrong c = search needs
-
-add-is-wrong : tie.Need-add-is-wrong Inv-loop μ-loop
-add-is-wrong c = search needs
-
-mul-is-wrong : tie.Need-mul-is-wrong Inv-loop μ-loop
-mul-is-wrong c = search needs
-
-shared-slice-read-is-wrong : tie.Need-shared-slice-read-is-wrong Inv-loop μ-loop
-shared-slice-read-is-wrong c = search needs
-
-is-wrong-requires : tie.Need-is-wrong-requires Inv-loop μ-loop
-is-wrong-requires c κs = search needs
-
 tested : (c : tie.After-is-wrong Inv-loop μ-loop)
     → wrongFrom (c .before .before .before .before .before .args .table .now) (c .before .before .before .before .before .args .start) (c .before .before .before .before .before .args .marks) (c .before .before .before .loop .b) ≡ c .is-wrong .result
 unfolding bit
@@ -46,12 +28,6 @@ tested c = sym (c .is-wrong .ensures)
 
 returns : tie.Need-returns Inv-loop μ-loop
 returns c = sym (least-is _ _ _ (c .before .before .before .loop-test .taken) (tested (c .before) ∙ c .if1 .taken) (c .before .before .before .before .loop .inv .1))
-
-add-b : tie.Need-add-b Inv-loop μ-loop
-add-b c = search needs
-
-loop-less : tie.Need-loop-less Inv-loop μ-loop
-loop-less c = search needs
 
 loop-again : tie.Need-loop-again Inv-loop μ-loop
 loop-again c = (omega arith, below-more _ _ (c .before .before .before .before .loop .inv .1) (tested (c .before) ∙ c .if1 .left))
@@ -62,18 +38,5 @@ returns-2 c = sym (least-none _ _ (λ k h. c .before .loop .inv .1 k (omega arit
 pub first-wrong-spec : {M : Type 1} → statement M
 first-wrong-spec =
     tie.close
-    (tie.spec
-    Inv-loop
-    μ-loop
-    loop-holds
-    cast-is-wrong
-    shr-is-wrong
-    add-is-wrong
-    mul-is-wrong
-    shared-slice-read-is-wrong
-    is-wrong-requires
-    returns
-    add-b
-    loop-less
-    loop-again
-    returns-2)
+    (tie.spec Inv-loop μ-loop loop-holds (λ c. search needs) (λ c. search needs) (λ c. search needs) (λ c. search needs) (λ c. search needs)
+    (λ c κs. search needs) returns (λ c. search needs) (λ c. search needs) loop-again returns-2)

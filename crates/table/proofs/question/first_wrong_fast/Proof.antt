@@ -13,9 +13,6 @@ use Rattle.table.specs.Entries.{entryOf, wrong, wrongFrom}
 use Rattle.table.proofs.question.first_wrong_fast.Statement.{statement}
 use Rattle.table.proofs.question.first_wrong_fast.Tie as tie
 
-eight-empty-requires : tie.Need-eight-empty-requires
-eight-empty-requires c κs = search needs
-
 empty : (b n : ℕ) → n ≡ 0 → wrong (bit 0 b) n ≡ false
 unfolding entryOf
 empty b n e = rw (bit-past 0 0 b refl (omega arith), e)
@@ -28,12 +25,9 @@ returns c =
     λ b h. ap (λ (m : ℕ). wrong (bit m b) (getD t (a .start + b) 0)) (c .before .before .before .if1 .taken) ∙ empty b (getD t (a .start + b) 0) (c .before .eight-empty .ensures (c .if3 .taken) b h) in
     sym (ap (least (wrongFrom t (a .start) (a .marks))) (c .before .before .if2 .taken) ∙ least-none (wrongFrom t (a .start) (a .marks)) 8 none)
 
-first-wrong-requires : tie.Need-first-wrong-requires
-first-wrong-requires c κs = search needs
-
 returns-2 : tie.Need-returns-2
 returns-2 c = c .first-wrong .ensures
 
 pub first-wrong-fast-spec : {M : Type 1} → statement M
 first-wrong-fast-spec =
-    tie.close (tie.spec eight-empty-requires returns first-wrong-requires returns-2)
+    tie.close (tie.spec (λ c κs. search needs) returns (λ c κs. search needs) returns-2)

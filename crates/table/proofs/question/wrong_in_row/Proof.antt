@@ -20,12 +20,6 @@ Inv-loop size bitmap table vertical row columns start at₀ at = (at ≤ 128) ×
 abbrev μ-loop : tie.MeasureT-loop
 μ-loop size bitmap table vertical row columns start at₀ at = columns - 8 * at
 
-edge-columns-requires : tie.Need-edge-columns-requires Inv-loop μ-loop
-edge-columns-requires c κs = search needs
-
-row-start-requires : tie.Need-row-start-requires Inv-loop μ-loop
-row-start-requires c κs = search needs
-
 loop-holds : tie.Need-loop-holds Inv-loop μ-loop
 loop-holds c = (omega arith, λ k h l. absurd (omega arith))
 
@@ -38,7 +32,7 @@ stick-byte-requires c κs =
     let a = start .args in
     let L = layerOf (a .size) (a .bitmap .now) in
     let given = start .pre in
-    (given .0, (column-stride (a .size) (given .0 .whole .sized) (a .vertical) (c .before .loop .at) (rw (c .before .before .before .edge-columns .ensures) at (c .loop-test .taken)), given .1 .1))
+    (given .0 .sound, (column-stride (a .size) (given .0 .sound .whole .sized) (a .vertical) (c .before .loop .at) (rw (c .before .before .before .edge-columns .ensures) at (c .loop-test .taken)), given .1))
 
 mul-run-length : tie.Need-mul-run-length Inv-loop μ-loop
 mul-run-length c = let i = c .before .before .loop .inv .0 in omega arith
@@ -56,10 +50,10 @@ fits : (c : tie.After-run-length Inv-loop μ-loop)
 fits c =
     let a = c .before .before .before .before .before .before .before .before .args in
     let given = c .before .before .before .before .before .before .before .before .pre in
-    let sized = given .0 .whole .sized in
+    let sized = given .0 .sound .whole .sized in
     let within = rw (c .before .before .before .before .before .edge-columns .ensures) at (c .run-length .ensures .1) in
     rw (c .before .before .before .before .row-start .ensures)
-    (omega (arith, row-fits (a .size) sized (a .vertical) (a .row) (given .1 .1), given .1 .0, edges-small (a .size) sized))
+    (omega (arith, row-fits (a .size) sized (a .vertical) (a .row) (given .1), given .0 .exact, edges-small (a .size) sized))
 
 add-first-wrong-fast : tie.Need-add-first-wrong-fast Inv-loop μ-loop
 add-first-wrong-fast c = omega (arith, fits c)
@@ -106,7 +100,7 @@ loop-again c =
     let a = start .args in
     let L = layerOf (a .size) (a .bitmap .now) in
     let given = start .pre in
-    let narrow = columns-narrow (a .size) (given .0 .whole .sized) (a .vertical) in
+    let narrow = columns-narrow (a .size) (given .0 .sound .whole .sized) (a .vertical) in
     let e = edge-columns .ensures in
     let found = rw (row-start .ensures) at (c .before .first-wrong-fast .ensures) in (
       omega arith,
@@ -126,23 +120,6 @@ returns-2 c =
 pub wrong-in-row-spec : {M : Type 1} → statement M
 wrong-in-row-spec =
     tie.close
-    (tie.spec
-    Inv-loop
-    μ-loop
-    edge-columns-requires
-    row-start-requires
-    loop-holds
-    mul-loop
-    stick-byte-requires
-    mul-run-length
-    run-length-requires
-    mul-first-wrong-fast
-    add-first-wrong-fast
-    first-wrong-fast-requires
-    mul-result
-    add-result
-    returns
-    add-at
-    loop-less
-    loop-again
-    returns-2)
+    (tie.spec Inv-loop μ-loop (λ c κs. search needs) (λ c κs. search needs) loop-holds mul-loop stick-byte-requires mul-run-length
+    run-length-requires mul-first-wrong-fast add-first-wrong-fast first-wrong-fast-requires mul-result add-result returns add-at loop-less
+    loop-again returns-2)

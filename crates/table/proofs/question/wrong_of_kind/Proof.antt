@@ -19,19 +19,13 @@ Inv-loop size bitmap table vertical columns rows row₀ row = (row ≤ edgeRows 
 abbrev μ-loop : tie.MeasureT-loop
 μ-loop size bitmap table vertical columns rows row₀ row = rows - row
 
-edge-columns-requires : tie.Need-edge-columns-requires Inv-loop μ-loop
-edge-columns-requires c κs = search needs
-
-edge-rows-requires : tie.Need-edge-rows-requires Inv-loop μ-loop
-edge-rows-requires c κs = search needs
-
 loop-holds : tie.Need-loop-holds Inv-loop μ-loop
 loop-holds c = (omega arith, λ k h. absurd (omega arith))
 
 wrong-in-row-requires : tie.Need-wrong-in-row-requires Inv-loop μ-loop
 wrong-in-row-requires c κs =
     let start = c .before .before .before .before .before .before in
-    let e = c .before .before .edge-rows .ensures in (start .pre .0, (start .pre .1, omega arith))
+    let e = c .before .before .edge-rows .ensures in (start .pre, omega arith)
 
 mul-result : tie.Need-mul-result Inv-loop μ-loop
 mul-result c =
@@ -40,7 +34,7 @@ mul-result c =
     let L = layerOf (a .size) (a .bitmap .now) in
     let given = start .pre in
     let e = c .before .before .before .before .edge-rows .ensures in
-    let small = rows-small (a .size) (given .0 .whole .sized) (a .vertical) (c .before .before .before .loop .row) (omega arith) in
+    let small = rows-small (a .size) (given .sound .whole .sized) (a .vertical) (c .before .before .before .loop .row) (omega arith) in
     rw (c .before .before .before .before .before .edge-columns .ensures) (omega arith)
 
 add-result : tie.Need-add-result Inv-loop μ-loop
@@ -51,8 +45,8 @@ add-result c =
     let L = layerOf (a .size) (a .bitmap .now) in
     let given = start .pre in
     let e = c .before .before .before .before .edge-rows .ensures in
-    let small = rows-small (a .size) (given .0 .whole .sized) (a .vertical) (c .before .before .before .loop .row) (omega arith) in
-    let n = columns-narrow (a .size) (given .0 .whole .sized) (a .vertical) in
+    let small = rows-small (a .size) (given .sound .whole .sized) (a .vertical) (c .before .before .before .loop .row) (omega arith) in
+    let n = columns-narrow (a .size) (given .sound .whole .sized) (a .vertical) in
     let f = edge-columns .ensures in
     rw (edge-columns .ensures) (omega arith)
 
@@ -68,7 +62,7 @@ returns c =
     let e = c .before .before .before .before .edge-rows .ensures in
     let n = edge-columns .ensures in
     rw (edge-columns .ensures)
-    (row-found L (a .table .now) (given .0 .whole .sized) (a .vertical) (loop .row) (omega arith) (loop .inv .1) (wrong-in-row .result) (wrong-in-row .ensures)
+    (row-found L (a .table .now) (given .sound .whole .sized) (a .vertical) (loop .row) (omega arith) (loop .inv .1) (wrong-in-row .result) (wrong-in-row .ensures)
     (rw (edge-columns .ensures) at (c .if1 .taken)))
 
 add-row : tie.Need-add-row Inv-loop μ-loop
@@ -78,7 +72,7 @@ add-row c =
     let L = layerOf (a .size) (a .bitmap .now) in
     let given = start .pre in
     let e = c .before .before .before .before .edge-rows .ensures in
-    let small = rows-small (a .size) (given .0 .whole .sized) (a .vertical) (c .before .before .before .loop .row) (omega arith) in
+    let small = rows-small (a .size) (given .sound .whole .sized) (a .vertical) (c .before .before .before .loop .row) (omega arith) in
     omega arith
 
 loop-less : tie.Need-loop-less Inv-loop μ-loop
@@ -94,14 +88,14 @@ loop-again c =
     let e = c .before .before .before .before .edge-rows .ensures in
     let n = c .before .before .before .before .before .edge-columns .ensures in
     let found = c .before .wrong-in-row .ensures in
-    (omega arith, row-passed L (a .table .now) (given .0 .whole .sized) (a .vertical) (loop .row) (omega arith) (loop .inv .1) (omega arith))
+    (omega arith, row-passed L (a .table .now) (given .sound .whole .sized) (a .vertical) (loop .row) (omega arith) (loop .inv .1) (omega arith))
 
 mul-result-2 : tie.Need-mul-result-2 Inv-loop μ-loop
 mul-result-2 c =
     let a = c .before .before .before .before .before .before .args in
     let L = layerOf (a .size) (a .bitmap .now) in
     let given = c .before .before .before .before .before .before .pre in
-    let small = rows-small (a .size) (given .0 .whole .sized) (a .vertical) (edgeRows (a .size) (a .vertical)) (omega arith) in
+    let small = rows-small (a .size) (given .sound .whole .sized) (a .vertical) (edgeRows (a .size) (a .vertical)) (omega arith) in
     rw (c .before .before .edge-rows .ensures, c .before .before .before .edge-columns .ensures) (omega arith)
 
 returns-2 : tie.Need-returns-2 Inv-loop μ-loop
@@ -119,18 +113,5 @@ returns-2 c =
 pub wrong-of-kind-spec : {M : Type 1} → statement M
 wrong-of-kind-spec =
     tie.close
-    (tie.spec
-    Inv-loop
-    μ-loop
-    edge-columns-requires
-    edge-rows-requires
-    loop-holds
-    wrong-in-row-requires
-    mul-result
-    add-result
-    returns
-    add-row
-    loop-less
-    loop-again
-    mul-result-2
-    returns-2)
+    (tie.spec Inv-loop μ-loop (λ c κs. search needs) (λ c κs. search needs) loop-holds wrong-in-row-requires mul-result add-result returns
+    add-row loop-less loop-again mul-result-2 returns-2)

@@ -5,7 +5,7 @@ use borrow.Author.Needs.{needs}
 use lib.ListN.{length}
 use Rattle.grid.specs.Layer.{Layer, layerOf, sizeOf}
 use Rattle.grid.specs.Counts.{insideCount, stickCount}
-use Rattle.grid.specs.Questions.{firstNo, ifAllYes, numberOf}
+use Rattle.grid.specs.Questions.{firstNo, ifAllYes, numberOf, Sound}
 use Rattle.grid.specs.declared.question.Answer.{Answer}
 use Rattle.grid.specs.declared.question.Answer.the-variants.{Yes, No}
 use Rattle.contour.specs.Contours.{contourCount}
@@ -15,35 +15,14 @@ use Rattle.table.proofs.Lengths.{lengths-of}
 use Rattle.trace.proofs.counting.counts.Statement.{statement}
 use Rattle.trace.proofs.counting.counts.Tie as tie
 
-ask-lengths-requires : tie.Need-ask-lengths-requires
-ask-lengths-requires c κs = search needs
-
-enum-told : tie.Need-enum-told
-enum-told c = search needs
-
-inside-count-requires : tie.Need-inside-count-requires
-inside-count-requires c κs =
+-- what a yes to questions 1 to 5 gives the three counts
+accepted : (c : tie.After-enum-told)
+    → let a = c .before .before .before .before .before .args in
+    Sound (layerOf (sizeOf (a .w) (a .h)) (a .bitmap .now))
+accepted c =
     let a = c .before .before .before .before .before .args in
-    let n = length (a .table .now) in
-    let L = layerOf (sizeOf (a .w) (a .h)) (a .bitmap .now) in
-    lengths-of L n (sym (c .before .before .ask-lengths .ensures) ∙ c .enum-told .given .1) .0
-
-stick-count-requires : tie.Need-stick-count-requires
-stick-count-requires c κs =
-    let a = c .before .before .before .before .before .before .args in
-    let n = length (a .table .now) in
-    let L = layerOf (sizeOf (a .w) (a .h)) (a .bitmap .now) in
-    lengths-of L n (sym (c .before .before .before .ask-lengths .ensures) ∙ c .before .enum-told .given .1) .0
-
-count-contours-requires : tie.Need-count-contours-requires
-count-contours-requires c κs =
-    let a = c .before .before .before .before .before .before .before .args in
-    let n = length (a .table .now) in
-    let L = layerOf (sizeOf (a .w) (a .h)) (a .bitmap .now) in
-    lengths-of L n (sym (c .before .before .before .before .ask-lengths .ensures) ∙ c .before .before .enum-told .given .1) .0
-
-enum-known-answer : tie.Need-enum-known-answer
-enum-known-answer c = search needs
+    lengths-of (layerOf (sizeOf (a .w) (a .h)) (a .bitmap .now)) (a .table .now)
+    (sym (c .before .before .ask-lengths .ensures) ∙ c .enum-told .given .1) .sound
 
 figures-are : (L : Layer) (n : ℕ) (answer : Answer) → firstNo (lengthQuestions L n) ≡ answer
     → countsOf L n
@@ -82,12 +61,5 @@ returns-2 c =
 pub counts-spec : {M : Type 1} → statement M
 counts-spec =
     tie.close
-    (tie.spec
-    ask-lengths-requires
-    enum-told
-    inside-count-requires
-    stick-count-requires
-    count-contours-requires
-    enum-known-answer
-    returns
-    returns-2)
+    (tie.spec (λ c κs. search needs) (λ c. search needs) (λ c κs. accepted c) (λ c κs. accepted (c .before))
+    (λ c κs. accepted (c .before .before)) (λ c. search needs) returns returns-2)

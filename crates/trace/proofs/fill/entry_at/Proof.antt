@@ -6,18 +6,6 @@ use Rattle.grid.specs.Layer.{bit}
 use Rattle.trace.proofs.fill.entry_at.Statement.{statement}
 use Rattle.trace.proofs.fill.entry_at.Tie as tie
 
-cast-if1 : tie.Need-cast-if1
-cast-if1 c = search needs
-
-shr-if1 : tie.Need-shr-if1
-shr-if1 c = search needs
-
-encoded-of-requires : tie.Need-encoded-of-requires
-encoded-of-requires c κs = search needs
-
-encoded-of-requires-2 : tie.Need-encoded-of-requires-2
-encoded-of-requires-2 c κs = search needs
-
 returns : tie.Need-returns
 unfolding bit
 returns c = rw (eq-eqb _ _ (c .before .if1 .taken)) (c .encoded-of .ensures)
@@ -27,4 +15,4 @@ unfolding bit
 returns-2 c = rw (ne-eqb _ _ (c .before .if1 .left)) (c .encoded-of2 .ensures)
 
 pub entry-at-spec : {M : Type 1} → statement M
-entry-at-spec = tie.close (tie.spec cast-if1 shr-if1 encoded-of-requires encoded-of-requires-2 returns returns-2)
+entry-at-spec = tie.close (tie.spec (λ c. search needs) (λ c. search needs) (λ c κs. search needs) (λ c κs. search needs) returns returns-2)

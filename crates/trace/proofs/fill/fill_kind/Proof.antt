@@ -22,9 +22,6 @@ Inv-loop size bitmap table₀ vertical rows row₀ table row = (row ≤ edgeRows
 abbrev μ-loop : tie.MeasureT-loop
 μ-loop size bitmap table₀ vertical rows row₀ table row = rows - row
 
-edge-rows-requires : tie.Need-edge-rows-requires Inv-loop μ-loop
-edge-rows-requires c κs = search needs
-
 loop-holds : tie.Need-loop-holds Inv-loop μ-loop
 loop-holds c = (omega arith, rw zero-mul (fill-none _ _ _))
 
@@ -35,7 +32,7 @@ fill-row-requires c κs =
     let given = c .before .before .before .before .before .before .pre in
     let e = c .before .before .before .edge-rows .ensures in
     let same = ap length (c .before .before .loop .inv .1) ∙ length-fill _ _ _ _ in
-    (given .0, (same ∙ given .1, omega arith))
+    (record { sound = given .sound; exact = same ∙ given .exact }, omega arith)
 
 add-row : tie.Need-add-row Inv-loop μ-loop
 add-row c =
@@ -45,7 +42,7 @@ add-row c =
     let L = layerOf (a .size) (a .bitmap .now) in
     let given = start .pre in
     let e = edge-rows .ensures in
-    let small = rows-small (a .size) (given .0 .whole .sized) (a .vertical) (c .before .before .before .before .before .loop .row) (omega arith) in omega arith
+    let small = rows-small (a .size) (given .sound .whole .sized) (a .vertical) (c .before .before .before .before .before .loop .row) (omega arith) in omega arith
 
 loop-less : tie.Need-loop-less Inv-loop μ-loop
 loop-less c = omega arith
@@ -82,14 +79,4 @@ returns c =
 pub fill-kind-spec : {M : Type 1} → statement M
 fill-kind-spec =
     tie.close
-    (tie.spec
-    Inv-loop
-    μ-loop
-    edge-rows-requires
-    loop-holds
-    fill-row-requires
-    add-row
-    loop-less
-    loop-again
-    same-length
-    returns)
+    (tie.spec Inv-loop μ-loop (λ c κs. search needs) loop-holds fill-row-requires add-row loop-less loop-again same-length returns)

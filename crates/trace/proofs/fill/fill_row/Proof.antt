@@ -22,12 +22,6 @@ Inv-loop size bitmap table₀ vertical row columns start at₀ table at = (at �
 abbrev μ-loop : tie.MeasureT-loop
 μ-loop size bitmap table₀ vertical row columns start at₀ table at = columns - 8 * at
 
-edge-columns-requires : tie.Need-edge-columns-requires Inv-loop μ-loop
-edge-columns-requires c κs = search needs
-
-row-start-requires : tie.Need-row-start-requires Inv-loop μ-loop
-row-start-requires c κs = search needs
-
 loop-holds : tie.Need-loop-holds Inv-loop μ-loop
 loop-holds c =
     let start = c .before .before .before .before in
@@ -43,7 +37,7 @@ stick-byte-requires c κs =
     let a = start .args in
     let L = layerOf (a .size) (a .bitmap .now) in
     let given = start .pre in
-    (given .0, (column-stride (a .size) (given .0 .whole .sized) (a .vertical) (c .before .loop .at) (rw (c .before .before .before .edge-columns .ensures) at (c .loop-test .taken)), given .1 .1))
+    (given .0 .sound, (column-stride (a .size) (given .0 .sound .whole .sized) (a .vertical) (c .before .loop .at) (rw (c .before .before .before .edge-columns .ensures) at (c .loop-test .taken)), given .1))
 
 mul-run-length : tie.Need-mul-run-length Inv-loop μ-loop
 mul-run-length c = let i = c .before .before .loop .inv .0 in omega arith
@@ -63,11 +57,11 @@ fits c =
     let edge-columns = c .before .before .before .before .before .before .edge-columns in
     let a = start .args in
     let given = start .pre in
-    let sized = given .0 .whole .sized in
+    let sized = given .0 .sound .whole .sized in
     let within = rw (edge-columns .ensures) at (c .before .run-length .ensures .1) in
     let same = ap length (c .before .before .before .before .loop .inv .1) ∙ length-fill _ _ _ (a .table .now) in
     rw (c .before .before .before .before .before .row-start .ensures)
-    (omega (arith, row-fits (a .size) sized (a .vertical) (a .row) (given .1 .1), given .1 .0, edges-small (a .size) sized))
+    (omega (arith, row-fits (a .size) sized (a .vertical) (a .row) (given .1), given .0 .exact, edges-small (a .size) sized))
 
 add-fill-run : tie.Need-add-fill-run Inv-loop μ-loop
 add-fill-run c = omega (arith, fits c)
@@ -77,9 +71,6 @@ fill-run-requires c κs = (fits c .0, c .before .run-length .ensures .0)
 
 add-at : tie.Need-add-at Inv-loop μ-loop
 add-at c = let i = c .before .before .before .before .before .before .before .loop .inv .0 in omega arith
-
-loop-less : tie.Need-loop-less Inv-loop μ-loop
-loop-less c = search needs
 
 loop-again : tie.Need-loop-again Inv-loop μ-loop
 loop-again c =
@@ -92,7 +83,7 @@ loop-again c =
     let a = start .args in
     let L = layerOf (a .size) (a .bitmap .now) in
     let given = start .pre in
-    let narrow = columns-narrow (a .size) (given .0 .whole .sized) (a .vertical) in
+    let narrow = columns-narrow (a .size) (given .0 .sound .whole .sized) (a .vertical) in
     let e = edge-columns .ensures in
     let f = tracedEntry L in
     let s = rowStart (a .size) (a .vertical) (a .row) in
@@ -105,7 +96,7 @@ loop-again c =
       omega arith,
       rw (row-start .ensures) at (c .before .before .fill-run .ensures)
           ∙ ap (fill (tracedBit (s + 8 * loop .at) (stick-byte .result)) (s + 8 * loop .at) n) (loop .inv .1 ∙ ap (λ (k : ℕ). fill f s k (a .table .now)) now-at)
-          ∙ run-more L (given .0 .whole .sized) (a .vertical) (a .row) (given .1 .1) (loop .at) (stick-byte .result) n (stick-byte .ensures) (run-length .ensures .0) fits (a .table .now)
+          ∙ run-more L (given .0 .sound .whole .sized) (a .vertical) (a .row) (given .1) (loop .at) (stick-byte .result) n (stick-byte .ensures) (run-length .ensures .0) fits (a .table .now)
           ∙ ap (λ (k : ℕ). fill f s k (a .table .now)) then-at,
     )
 
@@ -126,21 +117,5 @@ returns c =
 pub fill-row-spec : {M : Type 1} → statement M
 fill-row-spec =
     tie.close
-    (tie.spec
-    Inv-loop
-    μ-loop
-    edge-columns-requires
-    row-start-requires
-    loop-holds
-    mul-loop
-    stick-byte-requires
-    mul-run-length
-    run-length-requires
-    mul-fill-run
-    add-fill-run
-    fill-run-requires
-    add-at
-    loop-less
-    loop-again
-    same-length
-    returns)
+    (tie.spec Inv-loop μ-loop (λ c κs. search needs) (λ c κs. search needs) loop-holds mul-loop stick-byte-requires mul-run-length
+    run-length-requires mul-fill-run add-fill-run fill-run-requires add-at (λ c. search needs) loop-again same-length returns)

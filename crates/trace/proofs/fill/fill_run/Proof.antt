@@ -24,24 +24,12 @@ loop-holds c = (omega arith, fill-none _ _ _)
 entry-at-requires : tie.Need-entry-at-requires Inv-loop μ-loop
 entry-at-requires c κs = omega arith
 
-add-table : tie.Need-add-table Inv-loop μ-loop
-add-table c = search needs
-
-mul-table : tie.Need-mul-table Inv-loop μ-loop
-mul-table c = search needs
-
 slice-write-table : tie.Need-slice-write-table Inv-loop μ-loop
 slice-write-table c =
     let start = c .before .before .before .before in
     let loop = c .before .before .loop in
     let same = ap length (loop .inv .1) ∙ length-fill _ (start .args .start) (loop .b) (start .args .table .now) in
     omega arith
-
-add-b : tie.Need-add-b Inv-loop μ-loop
-add-b c = search needs
-
-loop-less : tie.Need-loop-less Inv-loop μ-loop
-loop-less c = search needs
 
 loop-again : tie.Need-loop-again Inv-loop μ-loop
 loop-again c =
@@ -67,16 +55,5 @@ returns c =
 pub fill-run-spec : {M : Type 1} → statement M
 fill-run-spec =
     tie.close
-    (tie.spec
-    Inv-loop
-    μ-loop
-    loop-holds
-    entry-at-requires
-    add-table
-    mul-table
-    slice-write-table
-    add-b
-    loop-less
-    loop-again
-    same-length
-    returns)
+    (tie.spec Inv-loop μ-loop loop-holds entry-at-requires (λ c. search needs) (λ c. search needs) slice-write-table (λ c. search needs)
+    (λ c. search needs) loop-again same-length returns)

@@ -11,15 +11,6 @@ use Rattle.trace.proofs.Entries.{kinds-join}
 use Rattle.trace.proofs.fill.fill_table.Statement.{statement}
 use Rattle.trace.proofs.fill.fill_table.Tie as tie
 
-fill-kind-requires : tie.Need-fill-kind-requires
-fill-kind-requires c κs = search needs
-
-fill-kind-requires-2 : tie.Need-fill-kind-requires-2
-fill-kind-requires-2 c κs = search needs
-
-same-length : tie.Need-same-length
-same-length c = search needs
-
 returns : tie.Need-returns
 returns c =
     let start = c .before .before .before .before .before .before .before .before .before .before in
@@ -29,7 +20,7 @@ returns c =
     let given = start .pre in
     c .before .before .fill-kind2 .ensures
     ∙ ap (fill (tracedEntry L) (kindStart (a .size) true) (edgeRows (a .size) true * edgeColumns (a .size) true)) (fill-kind .ensures)
-    ∙ kinds-join L (given .0 .whole .sized) (a .table .now)
+    ∙ kinds-join L (given .sound .whole .sized) (a .table .now)
 
 pub fill-table-spec : {M : Type 1} → statement M
-fill-table-spec = tie.close (tie.spec fill-kind-requires fill-kind-requires-2 same-length returns)
+fill-table-spec = tie.close (tie.spec (λ c κs. search needs) (λ c κs. search needs) (λ c. search needs) returns)

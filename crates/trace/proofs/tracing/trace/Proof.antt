@@ -17,24 +17,12 @@ use Rattle.trace.specs.Trace.{tracedEntry, Outcome, traceOf}
 use Rattle.trace.proofs.tracing.trace.Statement.{statement}
 use Rattle.trace.proofs.tracing.trace.Tie as tie
 
-ask-lengths-requires : tie.Need-ask-lengths-requires
-ask-lengths-requires c κs = search needs
-
-enum-told : tie.Need-enum-told
-enum-told c = search needs
-
 fill-table-requires : tie.Need-fill-table-requires
 fill-table-requires c κs =
     let a = c .before .before .before .before .before .before .args in
     let t = a .table .now in
     let L = layerOf (sizeOf (a .w) (a .h)) (a .bitmap .now) in
-    lengths-of L (length t) (sym (c .before .before .before .ask-lengths .ensures) ∙ c .before .enum-told .given .1)
-
-enum-known-answer : tie.Need-enum-known-answer
-enum-known-answer c = search needs
-
-same-length : tie.Need-same-length
-same-length c = search needs
+    lengths-of L t (sym (c .before .before .before .ask-lengths .ensures) ∙ c .before .enum-told .given .1)
 
 outcome-is : (L : Layer) (t : List ℕ) (answer : Answer) → firstNo (lengthQuestions L (length t)) ≡ answer
     → traceOf L t
@@ -56,7 +44,7 @@ returns c =
     let L = layerOf (sizeOf (a .w) (a .h)) (a .bitmap .now) in
     let e = sym (ask-lengths .ensures) ∙ c .before .before .before .before .enum-told .given .1 in
     ap (λ (s : List ℕ). record { refusal = 0; place = 0; table = s })
-    (c .before .before .fill-table .ensures ∙ fill-all (tracedEntry L) (edgeCount (L .size)) t (lengths-of L (length t) e .1))
+    (c .before .before .fill-table .ensures ∙ fill-all (tracedEntry L) (edgeCount (L .size)) t (lengths-of L t e .exact))
     ∙ sym (outcome-is L t Yes e)
 
 returns-2 : tie.Need-returns-2
@@ -70,11 +58,4 @@ returns-2 c =
 pub trace-spec : {M : Type 1} → statement M
 trace-spec =
     tie.close
-    (tie.spec
-    ask-lengths-requires
-    enum-told
-    fill-table-requires
-    enum-known-answer
-    same-length
-    returns
-    returns-2)
+    (tie.spec (λ c κs. search needs) (λ c. search needs) fill-table-requires (λ c. search needs) (λ c. search needs) returns returns-2)

@@ -8,18 +8,6 @@ use Rattle.view.proofs.Views.{view-is}
 use Rattle.view.proofs.making.made_of.Statement.{statement}
 use Rattle.view.proofs.making.made_of.Tie as tie
 
-ask-layer-requires : tie.Need-ask-layer-requires
-ask-layer-requires c κs = search needs
-
-enum-told : tie.Need-enum-told
-enum-told c = search needs
-
-enum-known-answer : tie.Need-enum-known-answer
-enum-known-answer c = search needs
-
-refusal-number-requires : tie.Need-refusal-number-requires
-refusal-number-requires c κs = search needs
-
 returns : tie.Need-returns
 returns c =
     let a = c .before .before .before .before .args in
@@ -39,10 +27,4 @@ returns-2 c =
 pub made-of-spec : {M : Type 1} → statement M
 made-of-spec =
     tie.close
-    (tie.spec
-    ask-layer-requires
-    enum-told
-    enum-known-answer
-    refusal-number-requires
-    returns
-    returns-2)
+    (tie.spec (λ c κs. search needs) (λ c. search needs) (λ c. search needs) (λ c κs. search needs) returns returns-2)

@@ -21,9 +21,6 @@ returns-2 c =
     let a = c .before .before .before .args in
     rw (lt-ltb (a .column) (a .width) (omega (arith, c .before .if1 .left)), le-ltb (a .row) (a .height) (omega (arith, c .if2 .taken)))
 
-add-at : tie.Need-add-at
-add-at c = search needs
-
 below : (c : tie.Else2) → let a = c .before .before .before .args in a .row * ((a .width + 7) / 8) + a .column / 8 < 2 ^ 64
 below c =
     let a = c .before .before .before .args in
@@ -34,15 +31,6 @@ mul-at c = omega (arith, below c)
 
 add-at-2 : tie.Need-add-at-2
 add-at-2 c = omega (arith, below c)
-
-byte-or-zero-requires : tie.Need-byte-or-zero-requires
-byte-or-zero-requires c κs = search needs
-
-cast-result : tie.Need-cast-result
-cast-result c = search needs
-
-shr-result : tie.Need-shr-result
-shr-result c = search needs
 
 returns-3 : tie.Need-returns-3
 unfolding sampleOrOutside sample bit
@@ -57,13 +45,4 @@ returns-3 c =
 pub sample-of-spec : {M : Type 1} → statement M
 sample-of-spec =
     tie.close
-    (tie.spec
-    returns
-    returns-2
-    add-at
-    mul-at
-    add-at-2
-    byte-or-zero-requires
-    cast-result
-    shr-result
-    returns-3)
+    (tie.spec returns returns-2 (λ c. search needs) mul-at add-at-2 (λ c κs. search needs) (λ c. search needs) (λ c. search needs) returns-3)

@@ -1,0 +1,2 @@
+-- What the reports of this crate are equal to.
+pub mod Results

@@ -1,0 +1,31 @@
+-- The step at one vertex as the code takes it, from the entry's place in the table and the positions of the neighbours: what it asks, and
+-- what it leaves. That it is the step `visit` of the rule is shown in proofs/Walking.antt.
+use mathlib.Core.Path.{_≡_}
+use mathlib.Core.Bool.{true}
+use mathlib.Core.List.{List}
+use Prim.Native.Nat.{ℕ, _<_}
+use lib.ListN.{length, getD, set}
+use Rattle.grid.specs.declared.edge.Edge.{Edge}
+use Rattle.chord.specs.Points.{Position}
+use Rattle.chord.specs.Crossing.{distance}
+use Rattle.table.specs.Entries.{entryOf, encoded, suits}
+use Rattle.table.specs.Vertices.{offsetIn}
+use Rattle.table.specs.declared.entry.Entry.the-variants.{Kept}
+use Rattle.smooth.specs.Offset.{newOffset, Movable}
+use Rattle.smooth.specs.declared.pass.Stepped.{Stepped}
+
+-- the offset that entry k of a table gives
+abbrev pub offsetOf : List ℕ → ℕ → ℕ
+offsetOf t k = offsetIn (entryOf (getD t k 0))
+
+-- entry k is that of the vertex of e, whose neighbours are at p and q
+pub record Visitable (t : List ℕ) (k : ℕ) (p q : Position) (e : Edge) : Type 0 where
+  pub within : k < length t
+  pub kept : suits true (entryOf (getD t k 0)) ≡ true
+  pub movable : Movable p q e (offsetOf t k)
+
+-- the new offset, the change, and the table with that entry alone changed
+pub record Visited (t : List ℕ) (k : ℕ) (p q : Position) (e : Edge) (r : Stepped) (t′ : List ℕ) : Type 0 where
+  pub offset : r .offset ≡ newOffset p q e (offsetOf t k)
+  pub change : r .change ≡ distance (offsetOf t k) (r .offset)
+  pub table : t′ ≡ set t k (encoded (Kept (r .offset)))
