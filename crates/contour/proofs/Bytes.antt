@@ -11,7 +11,7 @@ use Rattle.arith.specs.Ranges.{least}
 use Rattle.arith.proofs.Ranges.{leastFrom-holds, leastFrom-below}
 use Rattle.grid.specs.Layer.{Layer, bit}
 use Rattle.grid.specs.Edges.{isStick, StickBits}
-use Rattle.contour.proofs.Words.{bit-shift, bit-zero, bit-end}
+use Rattle.grid.proofs.Bits.{bit-shift, bit-zero, bit-end}
 
 module _ (L : Layer) where
   -- x has the bits of the columns from c on, up to the byte's end

@@ -16,7 +16,8 @@ use Rattle.grid.specs.declared.edge.Edge.{Edge}
 use Rattle.grid.proofs.Numbers.{kind-below}
 use Rattle.contour.specs.Walk.{first, firstsAmong, firstsFrom}
 use Rattle.contour.specs.Contours.{walkOf, firstSticks}
-use Rattle.contour.specs.Sets.{has, FirstSet, nextIn}
+use Rattle.bitset.specs.Sets.{has, nextIn}
+use Rattle.contour.specs.Sets.{FirstSet}
 use Rattle.contour.specs.Cursors.{left, Placed, Reached, Opened, Moved}
 use Rattle.contour.specs.declared.cursor.Cursor.{Cursor}
 use Rattle.contour.proofs.First.{first-one}

@@ -15,7 +15,8 @@ use Rattle.grid.specs.Questions.{Sound}
 use Rattle.grid.proofs.Numbers.{kind-below}
 use Rattle.contour.specs.Walk.{first}
 use Rattle.contour.specs.Contours.{walkOf, contourCount}
-use Rattle.contour.specs.Sets.{words, setBits, has, FirstSet, memberCount}
+use Rattle.bitset.specs.Sets.{words, setBits, has, memberCount}
+use Rattle.contour.specs.Sets.{FirstSet}
 use Rattle.contour.proofs.Contours.{length-contours}
 use Rattle.contour.proofs.Scans.{horizontal-fits, first-low-number}
 

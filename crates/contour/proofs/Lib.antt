@@ -1,5 +1,5 @@
 -- Laws that the proofs of this crate and of those above it cite: on walks over numbered elements (Orbit to Marking), on the contours of a
--- layer (Sticks, Horizontal, Theorems, Examples), on the set of first sticks and the scan that fills it (Words to FirstSets), and on the cursor
+-- layer (Sticks, Horizontal, Theorems, Examples), on the set of first sticks and the scan that fills it (Bytes to FirstSets), and on the cursor
 -- by which loops go from contour to contour (Cursors).
 pub mod Orbit
 pub mod Members
@@ -12,8 +12,6 @@ pub mod Sticks
 pub mod Horizontal
 pub mod Theorems
 pub mod Examples
-pub mod Words
-pub mod Sets
 pub mod Bytes
 pub mod Scans
 pub mod FirstSets

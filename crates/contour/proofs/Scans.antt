@@ -18,12 +18,14 @@ use Rattle.grid.specs.declared.edge.Edge.{Edge}
 use Rattle.grid.proofs.Numbers.{in-grid, kind-below, edgeAt-number}
 use Rattle.contour.specs.Walk.{first}
 use Rattle.contour.specs.Contours.{walkOf, contourOf}
-use Rattle.contour.specs.Sets.{words, setBits, has, Empty, FirstSet}
-use Rattle.contour.specs.Marking.{withNumber, withoutNumber, markEdge, horizontal, Scanned}
+use Rattle.bitset.specs.Sets.{words, setBits, has, Empty}
+use Rattle.contour.specs.Sets.{FirstSet}
+use Rattle.bitset.specs.Sets.{withNumber, withoutNumber}
+use Rattle.contour.specs.Marking.{markEdge, horizontal, Scanned}
 use Rattle.contour.proofs.Members.{on-one}
 use Rattle.contour.proofs.Sticks.{laws}
 use Rattle.contour.proofs.Horizontal.{horizontal-low, first-horizontal}
-use Rattle.contour.proofs.Sets.{has-with, has-with-other, has-without, has-without-other, length-with, length-without, has-none, has-past}
+use Rattle.bitset.proofs.Sets.{has-with, has-with-other, has-without, has-without-other, length-with, length-without, has-none, has-past}
 use Rattle.contour.proofs.Marking.{Marks, mark-start, mark-clear, mark-set, mark-passed, mark-contour, mark-skip, bits-ok}
 
 -- horizontal edges are numbered row by row, and have a bit each

@@ -13,7 +13,7 @@ use Rattle.arith.specs.Booleans.{asNumber}
 use Rattle.arith.specs.Ranges.{count}
 use Rattle.grid.specs.Layer.{Layer}
 use Rattle.grid.specs.Edges.{isStick, inGrid, number, edgeAt, edgeCount, edgeColumns, edgeRows, kindStart}
-use Rattle.grid.specs.Counts.{stickCount}
+use Rattle.mask.specs.Counts.{stickCount}
 use Rattle.grid.specs.Questions.{Sized, Sound}
 use Rattle.grid.specs.declared.layer.Size.{Size}
 use Rattle.grid.specs.declared.edge.Edge.{Edge}

@@ -2,23 +2,15 @@
 use mathlib.Core.Path.{_≡_}
 use mathlib.Core.Bool.{Bool, true, false, cond, not}
 use mathlib.Core.List.{List}
-use Prim.Native.Nat.{ℕ, _/_, _%_, _^_, _≤_, _<_}
-use lib.Bits.{bitOr, bitXor}
-use lib.ListN.{length, getD, set}
+use Prim.Native.Nat.{ℕ, _≤_, _<_}
+use lib.ListN.{length}
 use Rattle.grid.specs.Layer.{Layer}
 use Rattle.grid.specs.Edges.{number, kindStart}
 use Rattle.grid.specs.declared.layer.Size.{Size}
 use Rattle.grid.specs.declared.edge.Edge.{Edge}
+use Rattle.bitset.specs.Sets.{words, has, withNumber}
 use Rattle.contour.specs.Walk.{Walk, first, seen}
 use Rattle.contour.specs.Contours.{walkOf}
-use Rattle.contour.specs.Sets.{words, has}
-
--- the set with n in it, and, where n is in it, without
-unfoldable pub withNumber : List ℕ → ℕ → List ℕ
-withNumber t n = set t (n / 64) (bitOr (getD t (n / 64) 0) (2 ^ (n % 64)))
-
-unfoldable pub withoutNumber : List ℕ → ℕ → List ℕ
-withoutNumber t n = set t (n / 64) (bitXor (getD t (n / 64) 0) (2 ^ (n % 64)))
 
 -- the bit of a stick is set as the walk passes it; vertical sticks have none
 abbrev pub markEdge : Size → List ℕ → Edge → List ℕ

@@ -1,8 +1,8 @@
 // How many contours a layer has.
 use super::scan::first_sticks;
-use super::set::EdgeSet;
-use super::set::WORDS;
-use super::set::contour_count;
+use bitset::EdgeSet;
+use bitset::WORDS;
+use bitset::member_count;
 use grid::Size;
 use grid::kind_start;
 ghost use mathlib.Core.Path.{_≡_};
@@ -16,5 +16,5 @@ pub fn count_contours(size: Size, bitmap: &[u8]) -> usize
 {
     let mut set: EdgeSet = [0; WORDS];
     first_sticks(size, bitmap, &mut set);
-    contour_count(&set, kind_start(size, true))
+    member_count(&set, kind_start(size, true))
 }

@@ -1,7 +1,7 @@
 // A cursor over the contours of a layer, by the set of their first sticks: every loop over contours goes
 // `let mut at = first_contour(..); while at.more { work on at.stick; at = next_contour(.., at); }`.
-use super::set::EdgeSet;
-use super::set::next_first;
+use bitset::EdgeSet;
+use bitset::next_first;
 use grid::Edge;
 use grid::Size;
 use grid::edge_at;

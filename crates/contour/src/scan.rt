@@ -1,15 +1,15 @@
 // The set of first sticks. The horizontal edges are scanned upward by number. A stick whose bit is set lies on the contour of an earlier
 // one: its bit is cleared. A stick whose bit is clear is first: its contour is walked and the bit of each horizontal stick on it set.
 use super::edge::same_edge;
-use super::set::EdgeSet;
-use super::set::contains;
-use super::set::insert;
-use super::set::lowest_bit;
-use super::set::remove;
+use bitset::EdgeSet;
+use bitset::contains;
+use bitset::insert;
+use bitset::lowest_bit;
+use bitset::remove;
 use grid::Edge;
 use grid::Size;
-use grid::stick_byte;
 use grid::stride_of;
+use mask::stick_byte;
 use step::next_stick;
 ghost use mathlib.Core.Path.{_≡_};
 ghost use mathlib.Core.Bool.{true, false};
@@ -20,7 +20,8 @@ ghost use Rattle.grid.specs.Layer.{layerOf, stride};
 ghost use Rattle.grid.specs.Edges.{isStick};
 ghost use Rattle.grid.specs.Questions.{Sound};
 ghost use Rattle.contour.specs.Contours.{contourOf};
-ghost use Rattle.contour.specs.Sets.{words, Empty, FirstSet};
+ghost use Rattle.bitset.specs.Sets.{words, Empty};
+ghost use Rattle.contour.specs.Sets.{FirstSet};
 ghost use Rattle.contour.specs.Marking.{markEdge, Scanned};
 
 fn widen(x: u8) -> u64

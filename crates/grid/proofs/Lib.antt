@@ -3,5 +3,4 @@ pub mod Samples
 pub mod Borders
 pub mod Numbers
 pub mod Answers
-pub mod Masks
-pub mod Ones
+pub mod Bits

@@ -1,12 +1,8 @@
-// A layer's samples and grid edges, the sticks among them and how many there are; questions 1 to 4.
-mod count;
+// A layer's samples and grid edges, and the sticks among them; questions 1 to 4.
 mod edge;
 mod layer;
-mod mask;
 mod question;
 
-pub use count::inside_count;
-pub use count::stick_count;
 pub use edge::Edge;
 pub use edge::edge_at;
 pub use edge::edge_columns;
@@ -17,9 +13,8 @@ pub use edge::number_of;
 pub use edge::row_start;
 pub use layer::Size;
 pub use layer::is_inside;
+pub use layer::row_byte;
 pub use layer::stride_of;
-pub use mask::run_length;
-pub use mask::stick_byte;
 pub use question::Answer;
 pub use question::Refusal;
 pub use question::ask_layer;

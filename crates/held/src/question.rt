@@ -1,7 +1,7 @@
 // Question 7, questions 1 to 7 in order, and 15 after them.
 use super::walk::held_contour;
-use contour::EdgeSet;
-use contour::WORDS;
+use bitset::EdgeSet;
+use bitset::WORDS;
 use contour::first_contour;
 use contour::first_sticks;
 use contour::next_contour;
@@ -13,7 +13,8 @@ ghost use mathlib.Core.List.{[], _∷_};
 ghost use Rattle.grid.specs.Layer.{layerOf};
 ghost use Rattle.grid.specs.Questions.{firstNo};
 ghost use Rattle.grid.specs.declared.question.Answer.the-variants.{Yes};
-ghost use Rattle.contour.specs.Sets.{Empty, FirstSet};
+ghost use Rattle.bitset.specs.Sets.{Empty};
+ghost use Rattle.contour.specs.Sets.{FirstSet};
 ghost use Rattle.table.specs.Entries.{entriesAnswer};
 ghost use Rattle.table.specs.Kept.{allKeptAnswer};
 ghost use Rattle.table.specs.Lent.{Lent};

@@ -20,7 +20,8 @@ use Rattle.grid.specs.declared.question.Answer.the-variants.{Yes, No}
 use Rattle.grid.proofs.Answers.{first-only, append-no, append-yes}
 use Rattle.grid.proofs.Numbers.{edges-small}
 use Rattle.contour.specs.Contours.{contourCount}
-use Rattle.contour.specs.Sets.{setBits, has, FirstSet, memberCount}
+use Rattle.bitset.specs.Sets.{setBits, has, memberCount}
+use Rattle.contour.specs.Sets.{FirstSet}
 use Rattle.contour.proofs.FirstSets.{set-count}
 use Rattle.held.specs.Questions.{heldQuestions, Accepted}
 use Rattle.planner.specs.Items.{itemsOf, byteOf, bytesOf, floatsOf}

@@ -1,9 +1,9 @@
 // The public call: questions 1 to 7 and 14, and the items of all contours.
 use super::item::Written;
 use super::walk::write_contour;
-use contour::EdgeSet;
-use contour::WORDS;
-use contour::contour_count;
+use bitset::EdgeSet;
+use bitset::WORDS;
+use bitset::member_count;
 use contour::first_contour;
 use contour::next_contour;
 use grid::Answer;
@@ -84,7 +84,7 @@ fn plan_accepted(
     ensures { λ r. ⌜ outcome r (now (items .exit)) (now (points .exit)) ≡ acceptedOf (layerOf size (now (bitmap .entry))) (now (table .entry)) (now (items .entry)) (now (points .entry)) ⌝ }
 {
     let kept = count_kept(table);
-    if items.len() < kept + contour_count(set, kind_start(size, true)) {
+    if items.len() < kept + member_count(set, kind_start(size, true)) {
         return Planned::Refused(Refusal::ShortOutput, 0);
     }
     if points.len() < 2 * kept {

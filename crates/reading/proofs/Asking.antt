@@ -22,13 +22,15 @@ use Rattle.table.specs.Vertices.{keptAt, removedAt}
 use Rattle.drawn.specs.Drawn.{edgeCrosses}
 use Rattle.drawn.proofs.GapWalk.{forth, Passed, passed-start, passed-below, passed-turn, passed-last}
 use Rattle.held.proofs.Asking.{Cleared, Counted, counted-start, counted-no, counted-turn, counted-last, Asked, ask-start, ask-next}
-use Rattle.reading.specs.Reading.{sheetAnswer, described}
-use Rattle.reading.specs.Places.{ContoursExpected, VertexExpected, VertexAfter, VerticesStand, EndsAt, ContourChecked}
+use Rattle.formed.specs.Expected.{sheetAnswer}
+use Rattle.formed.specs.Asked.{ContoursExpected}
+use Rattle.formed.proofs.Contours.{expected-start, expected-next, expected-here}
+use Rattle.reading.specs.Reading.{described}
+use Rattle.reading.specs.Places.{VertexExpected, VertexAfter, VerticesStand, EndsAt, ContourChecked}
 use Rattle.reading.specs.declared.holding.Vertex.{Vertex}
 use Rattle.reading.specs.declared.holding.Checked.{Checked}
-use Rattle.reading.proofs.Places.{described-length}
-use Rattle.reading.proofs.Contours.{vertices-stand, expected-start, expected-next, expected-here}
-use Rattle.reading.proofs.Vertices.{first-expected, vertex-stick, vertex-more, vertex-last, removed-is}
+use Rattle.reading.proofs.Described.{described-length}
+use Rattle.reading.proofs.Vertices.{first-expected, vertex-stick, vertex-more, vertex-last, removed-is, vertices-stand}
 
 -- On from the kept vertex v over `gap` removed ones: the walk stands at `at`
 

@@ -24,10 +24,13 @@ use Rattle.table.specs.Stores.{store}
 use Rattle.table.specs.Lent.{LentAt}
 use Rattle.table.specs.declared.entry.Entry.{Entry}
 use Rattle.table.proofs.Stores.{store-length}
-use Rattle.reading.specs.Reading.{vertexOf, entryFrom, Reading, takeCommand, noEntries, sheetAnswer, described}
-use Rattle.reading.specs.Places.{expectedFrom, readingAt, storeVertex, storeContour, ContoursExpected}
-use Rattle.reading.proofs.Places.{widths-vertices, taken-at, taken-length}
-use Rattle.reading.proofs.Contours.{from-cons, contour-within, expected-start, expected-next, expected-here}
+use Rattle.formed.specs.Expected.{vertexOf, sheetAnswer}
+use Rattle.formed.specs.Asked.{expectedFrom, ContoursExpected}
+use Rattle.formed.proofs.Commands.{widths-vertices}
+use Rattle.formed.proofs.Contours.{from-cons, contour-within, expected-start, expected-next, expected-here}
+use Rattle.reading.specs.Reading.{entryFrom, Reading, takeCommand, noEntries, described}
+use Rattle.reading.specs.Places.{readingAt, storeVertex, storeContour}
+use Rattle.reading.proofs.Described.{taken-at, taken-length}
 
 -- Along the contour of f, from place i and table t₀ on: the walk stands at e, whose vertex stands at `at`, and the table is t
 

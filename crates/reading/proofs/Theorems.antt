@@ -14,9 +14,10 @@ use Rattle.table.specs.Entries.{lengthQuestions}
 use Rattle.table.proofs.Lengths.{lengths-of}
 use Rattle.held.specs.Held.{heldAnswer}
 use Rattle.held.specs.Questions.{Accepted}
-use Rattle.reading.specs.Reading.{sheetAnswer, described, Outcome, readOf}
+use Rattle.formed.specs.Expected.{sheetAnswer}
+use Rattle.reading.specs.Reading.{described, Outcome, readOf}
 use Rattle.reading.specs.Places.{answeredBy}
-use Rattle.reading.proofs.Places.{described-length}
+use Rattle.reading.proofs.Described.{described-length}
 use Rattle.reading.proofs.Vertices.{described-entries}
 
 -- what holds where a sheet is read: its questions are answered yes, and the table at exit is the one that it describes

@@ -3,7 +3,7 @@
 use mathlib.Core.Path.{_≡_, refl, sym, _∙_, ap}
 use mathlib.Core.Logic.{inl, inr}
 use mathlib.Core.Bool.{Bool, true, false, cond, not, _&&_, _||_}
-use mathlib.Core.List.{List}
+use mathlib.Core.List.{List, _∷_}
 use Prim.Native.Nat.{ℕ, suc, _+_, _*_, _≤_, _<_}
 use native.Mathlib.Nat.{eq-or-lt-of-le}
 use native.Mathlib.Omega.{arith}
@@ -32,10 +32,14 @@ use Rattle.table.specs.declared.entry.Entry.{Entry}
 use Rattle.table.specs.declared.entry.Entry.the-variants.{Nothing, Kept, Removed}
 use Rattle.table.proofs.Entries.{Inside, entry-encoded, entry-nothing}
 use Rattle.drawn.proofs.Runs.{in-grid-near}
-use Rattle.reading.specs.Reading.{expectedSheet, sheetAnswer, described}
-use Rattle.reading.specs.Places.{widths, VertexExpected, VerticesStand}
+use Rattle.formed.specs.Expected.{expectedSheet, sheetAnswer}
+use Rattle.formed.specs.Asked.{widths, ContoursExpected}
+use Rattle.formed.proofs.Commands.{expected-at, expected-once, stands-here}
+use Rattle.formed.proofs.Contours.{contour-within, vertex-split}
+use Rattle.reading.specs.Reading.{described}
+use Rattle.reading.specs.Places.{VertexExpected, VerticesStand}
 use Rattle.reading.specs.declared.holding.Vertex.{Vertex}
-use Rattle.reading.proofs.Places.{expected-at, expected-once, described-here, described-off, stands-here}
+use Rattle.reading.proofs.Described.{described-here, described-off}
 
 -- One vertex command: letter a, offset o
 
@@ -142,6 +146,26 @@ module _ {L : Layer} {s : List ℕ} {first v : Vertex} (stand : VerticesStand L 
     unfolding offsetAt
     offset-is = here-says .offset
 
+-- In a well-formed sheet the vertices of every contour stand
+
+module _ {L : Layer} {f : Edge} {fs : List Edge} {i : ℕ} (b : ContoursExpected L (f ∷ fs) i) (s : List ℕ) (yes-8 : sheetAnswer L s ≡ Yes)
+    (sound : Sound L) (stick : isStick L f ≡ true) where
+  pub vertices-stand : VerticesStand L s (record { stick = f; place = i + 6 })
+  vertices-stand =
+      record {
+        sound = sound;
+        start-stick = stick;
+        room = contour-within b s yes-8;
+        whole = λ v x.
+            let p = vertex-split b sound stick (x .index) (x .within) in
+            let z : widths (p .0) ≡ v .place = omega (arith, p .3, x .place) in
+            rw (← z) (stands-here L sound (ahead (walkOf L) (x .index) f) (p .0) (p .1) (p .2) s yes-8);
+        entry = λ v x.
+            let p = vertex-split b sound stick (x .index) (x .within) in
+            let z : widths (p .0) ≡ v .place = omega (arith, p .3, x .place) in
+            rw (← x .met, ← z) (described-here L s sound (ahead (walkOf L) (x .index) f) (p .0) (p .1) (p .2));
+      }
+
 -- The described table passes question 6
 
 none : wrong false (encoded Nothing) ≡ false
@@ -150,10 +174,10 @@ none = ap (λ (x : Entry). not (suits false x)) entry-nothing
 module _ (L : Layer) (s : List ℕ) (bytes : (k : ℕ) → getD s k 0 < 256) (sound : Sound L) (yes-8 : sheetAnswer L s ≡ Yes) where
   stick-right : (y : Edge) → isStick L y ≡ true → suits true (entryOf (getD (described L s) (number (L .size) y) 0)) ≡ true
   stick-right y stick =
-      let p = expected-at L y (expectedSheet L) (omega (arith, expected-once L s sound y, ap asNumber stick)) in
+      let p = expected-at L y (expectedSheet L) (omega (arith, expected-once L sound y, ap asNumber stick)) in
       let at : ℕ = widths (p .0) in
       rw (described-here L s sound y (p .0) (p .1) (p .2))
-      (vertex-says (getD s at 0) (getD s (at + 1) 0) (stands-here L s sound y (p .0) (p .1) (p .2) yes-8) (bytes (at + 1)) .right)
+      (vertex-says (getD s at 0) (getD s (at + 1) 0) (stands-here L sound y (p .0) (p .1) (p .2) s yes-8) (bytes (at + 1)) .right)
 
   right-at : (k : ℕ) → k < edgeCount (L .size) → wrongAt L (described L s) k ≡ false
   right-at k below = both-sides (stickAt L k)

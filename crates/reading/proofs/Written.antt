@@ -35,9 +35,12 @@ use Rattle.held.proofs.Asking.{accepted-of}
 use Rattle.sheet.specs.Commands.{vertexCommand, sizeCommand, contourCommand, endCommand}
 use Rattle.sheet.specs.Written.{verticesOf, contoursBytes, sheetOf}
 use Rattle.sheet.proofs.Counted.{Sticks, head-stick, tail-sticks}
-use Rattle.reading.specs.Reading.{Expected, these, vertexOf, width, standsAt, vertexAt, expectedContour, expectedSheet, commandsFrom, sheetAnswer, entryFrom, described, readOf}
-use Rattle.reading.specs.Places.{widths, answeredBy}
-use Rattle.reading.proofs.Places.{widths-append, command-yes, sticksIn, sticks-append, expected-at, expected-once, expected-stick, described-length, described-here, described-off}
+use Rattle.formed.specs.Expected.{Expected, these, vertexOf, standsAt, vertexAt, expectedContour, expectedSheet, commandsFrom, sheetAnswer}
+use Rattle.formed.specs.Asked.{widths}
+use Rattle.formed.proofs.Commands.{widths-append, command-yes, commands-length, sticksIn, sticks-append, expected-at, expected-once, expected-stick}
+use Rattle.reading.specs.Reading.{entryFrom, described, readOf}
+use Rattle.reading.specs.Places.{answeredBy}
+use Rattle.reading.proofs.Described.{described-length, described-here, described-off}
 use Rattle.reading.proofs.Vertices.{Says, vertex-says}
 use Rattle.reading.proofs.Theorems.{read-passes}
 
@@ -170,13 +173,13 @@ module _ (L : Layer) (sound : Sound L) (t : List ℕ) (exact : length t ≡ edge
   unfolding sheetAnswer
   written-formed =
       ap (λ (s : List ℕ). commandsFrom s 0 (expectedSheet L)) (sheet-bytes L t)
-      ∙ written-stands (expectedSheet L) [] (expected-stick L [] sound)
+      ∙ written-stands (expectedSheet L) [] (expected-stick L sound)
 
   -- and it describes the table.
   back-on-stick : (y : Edge) → isStick L y ≡ true → getD (described L (sheetOf L t)) (number (L .size) y) 0 ≡ getD t (number (L .size) y) 0
   unfolding occurrences
   back-on-stick y stick =
-      let at = expected-at L y (expectedSheet L) (omega (arith, expected-once L [] sound y, ap asNumber stick)) in
+      let at = expected-at L y (expectedSheet L) (omega (arith, expected-once L sound y, ap asNumber stick)) in
       let pre = at .0 in
       let post = at .1 in
       let c = stick-command y stick in
@@ -187,7 +190,7 @@ module _ (L : Layer) (sound : Sound L) (t : List ℕ) (exact : length t ≡ edge
       let is : sheetOf L t ≡ p ++ (a ∷ o ∷ r) =
       sheet-bytes L t ∙ ap (bytesIn L t) (sym (at .2)) ∙ bytes-append L t pre (vertexOf y ∷ post)
       ∙ ap (λ (l : List ℕ). p ++ (l ++ r)) (c .2 .bytes) in
-      let before : Expects pre = λ d h. expected-stick L [] sound d (omega (
+      let before : Expects pre = λ d h. expected-stick L sound d (omega (
         arith,
         ap (occurrences (walkOf L) d) (ap sticksIn (sym (at .2)) ∙ sticks-append pre (vertexOf y ∷ post)),
         occurrences-append (walkOf L) d (sticksIn pre) (y ∷ sticksIn post),
@@ -229,14 +232,6 @@ read-written L t u asked same =
     ap (answeredBy L u s) all ∙ ap (λ (l : List ℕ). record { refusal = 0; place = 0; table = l }) back
 
 -- An accepted sheet is written again byte for byte
-
--- nothing stands after its last command
-commands-length : (s : List ℕ) (xs : List Expected) (i : ℕ) → commandsFrom s i xs ≡ Yes → i + widths xs ≡ length s
-commands-length s [] i e = both-sides (eqb i (length s))
-    (λ y. let q = eqb-true i (length s) y in omega arith)
-    (λ n. absurd (no-not-yes Malformed i (rw n at e)))
-commands-length s (x ∷ xs) i e =
-    let later = commands-length s xs (i + width x) (command-yes s i x xs e .1) in omega arith
 
 -- the command of an entry, from what a vertex command says of it
 command-back : (a o : ℕ) (x : Entry) → Says a o x → vertexCommand x ≡ a ∷ o ∷ []

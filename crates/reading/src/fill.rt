@@ -1,6 +1,5 @@
 // The table of the layer that a sheet describes, where the sheet passed 8: 0 everywhere, then each stick's entry from its command.
-use super::command::entry_from;
-use contour::EdgeSet;
+use bitset::EdgeSet;
 use contour::first_contour;
 use contour::next_contour;
 use contour::same_edge;
@@ -10,6 +9,7 @@ use sheet::CONTOUR_BYTES;
 use sheet::SIZE_BYTES;
 use sheet::VERTEX_BYTES;
 use step::next_stick;
+use table::Entry;
 ghost use mathlib.Core.Path.{_≡_};
 ghost use Prim.Native.Nat.{_+_, _*_, _≤_};
 ghost use lib.ListN.{length};
@@ -20,7 +20,8 @@ ghost use Rattle.grid.specs.declared.question.Answer.the-variants.{Yes};
 ghost use Rattle.contour.specs.Contours.{contourOf};
 ghost use Rattle.contour.specs.Sets.{FirstSet};
 ghost use Rattle.table.specs.Lent.{LentAt};
-ghost use Rattle.reading.specs.Reading.{sheetAnswer, noEntries, described};
+ghost use Rattle.formed.specs.Expected.{sheetAnswer};
+ghost use Rattle.reading.specs.Reading.{entryFrom, noEntries, described};
 ghost use Rattle.reading.specs.Places.{readingAt, storeContour};
 
 // Puts 0 in every entry.
@@ -31,6 +32,19 @@ fn clear(table: &mut [u16])
     while k < table.len() {
         table[k] = 0;
         k += 1;
+    }
+}
+
+// The entry that the vertex command at i gives its stick.
+pub fn entry_from(sheet: &[u8], i: usize) -> Entry
+    requires { ⌜ i + 2 ≤ length (now sheet) ⌝ }
+    ensures { λ r. ⌜ r ≡ entryFrom (now (sheet .entry)) i ⌝ }
+{
+    let offset = sheet[i + 1];
+    if sheet[i] == b'R' {
+        Entry::Removed(offset)
+    } else {
+        Entry::Kept(offset)
     }
 }
 

@@ -1,9 +1,9 @@
 // Question 7 of the layer that a sheet describes, where the sheet passed 8. It is answered from the sheet's bytes, so that no table is written
 // before all is accepted: the vertices of a contour stand one after the other, and at each kept one the drawn edge that starts there is tested.
+use bitset::EdgeSet;
 use chord::Position;
 use chord::crosses_run;
 use chord::position_of;
-use contour::EdgeSet;
 use contour::first_contour;
 use contour::next_contour;
 use contour::same_edge;
@@ -28,7 +28,8 @@ ghost use Rattle.chord.specs.Runs.{Near, NearEdge};
 ghost use Rattle.table.specs.Vertices.{keptAt, removedAt};
 ghost use Rattle.drawn.specs.Drawn.{edgeCrosses};
 ghost use Rattle.held.specs.Held.{heldAnswer};
-ghost use Rattle.reading.specs.Reading.{sheetAnswer, described};
+ghost use Rattle.formed.specs.Expected.{sheetAnswer};
+ghost use Rattle.reading.specs.Reading.{described};
 ghost use Rattle.reading.specs.Places.{VertexExpected, VertexAfter, VerticesStand, EndsAt, ContourChecked};
 
 // A stick, and the place of its vertex in the sheet.

@@ -1,7 +1,5 @@
-// A sheet read against a bitmap: question 8 of its bytes, question 7 of the layer that they describe, and the table filled from them.
-mod command;
+// A sheet read against a bitmap: question 7 of the layer that a well-formed sheet describes, and the table filled from its bytes.
 mod fill;
-mod formed;
 mod holding;
 mod read;
 

@@ -1,10 +1,10 @@
 // The public call that reads a sheet.
 use super::fill::fill_table;
-use super::formed::ask_sheet;
 use super::holding::ask_described;
-use contour::EdgeSet;
-use contour::WORDS;
+use bitset::EdgeSet;
+use bitset::WORDS;
 use contour::first_sticks;
+use formed::ask_sheet;
 use grid::Answer;
 use grid::Refusal;
 use grid::Size;

@@ -2,7 +2,7 @@
 use super::bytes::put_first;
 use super::bytes::put_vertex;
 use super::command::CONTOUR_BYTES;
-use contour::EdgeSet;
+use bitset::EdgeSet;
 use contour::first_contour;
 use contour::next_contour;
 use contour::same_edge;

@@ -3,20 +3,20 @@ use super::bytes::put_byte;
 use super::bytes::put_size;
 use super::command::SIZE_BYTES;
 use super::walk::put_contours;
-use contour::EdgeSet;
-use contour::WORDS;
-use contour::contour_count;
+use bitset::EdgeSet;
+use bitset::WORDS;
+use bitset::member_count;
 use grid::Answer;
 use grid::Refusal;
 use grid::Size;
 use grid::kind_start;
-use grid::stick_count;
+use mask::stick_count;
 ghost use mathlib.Core.Path.{_≡_};
 ghost use Prim.Native.Nat.{_+_, _*_, _≤_};
 ghost use lib.ListN.{length};
 ghost use lib.Seq.{sets};
 ghost use Rattle.grid.specs.Layer.{layerOf, sizeOf};
-ghost use Rattle.grid.specs.Counts.{stickCount};
+ghost use Rattle.mask.specs.Counts.{stickCount};
 ghost use Rattle.grid.specs.Questions.{firstNo};
 ghost use Rattle.grid.specs.declared.question.Answer.the-variants.{Yes};
 ghost use Rattle.contour.specs.Contours.{contourCount};
@@ -36,7 +36,7 @@ fn sheet_length(size: Size, bitmap: &[u8], set: &EdgeSet) -> usize
     requires { ⌜ FirstSet (layerOf size (now bitmap)) (now set) ⌝ }
     ensures { λ r. ⌜ r ≡ 6 + 6 * contourCount (layerOf size (now (bitmap .entry))) + 2 * stickCount (layerOf size (now (bitmap .entry))) ⌝ }
 {
-    6 + 6 * contour_count(set, kind_start(size, true)) + 2 * stick_count(size, bitmap)
+    6 + 6 * member_count(set, kind_start(size, true)) + 2 * stick_count(size, bitmap)
 }
 
 // Stores the sheet of a layer and its table.

@@ -1,7 +1,7 @@
 // The public call Simplify.
 use super::contours::simplify_contours;
-use contour::EdgeSet;
-use contour::WORDS;
+use bitset::EdgeSet;
+use bitset::WORDS;
 use grid::Answer;
 use grid::Refusal;
 use grid::Size;

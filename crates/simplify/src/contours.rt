@@ -1,7 +1,7 @@
 // The contours of a layer simplified one after the other.
 use super::tries::RunCounts;
 use super::tries::simplify_contour;
-use contour::EdgeSet;
+use bitset::EdgeSet;
 use contour::first_contour;
 use contour::next_contour;
 use grid::Size;

@@ -1,8 +1,8 @@
 // A pass: the step at one vertex, along one contour, and over all contours.
 use super::offset::new_offset;
+use bitset::EdgeSet;
 use chord::Position;
 use chord::position_of;
-use contour::EdgeSet;
 use contour::first_contour;
 use contour::next_contour;
 use drawn::vertex_at;

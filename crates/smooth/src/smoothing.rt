@@ -1,11 +1,11 @@
 // The public call Smooth.
 use super::pass::pass_layer;
-use contour::EdgeSet;
-use contour::WORDS;
+use bitset::EdgeSet;
+use bitset::WORDS;
 use grid::Answer;
 use grid::Refusal;
 use grid::Size;
-use grid::stick_count;
+use mask::stick_count;
 ghost use mathlib.Core.Path.{_≡_};
 ghost use Prim.Native.Nat.{_≤_};
 ghost use Rattle.grid.specs.Layer.{layerOf, sizeOf};

@@ -95,8 +95,8 @@ fn wrong_in_row(size: Size, bitmap: &[u8], table: &[u16], vertical: bool, row: u
     let start = grid::row_start(size, vertical, row);
     let mut at = 0;
     while 8 * at < columns {
-        let marks = grid::stick_byte(size, bitmap, vertical, at, row);
-        let count = grid::run_length(columns, 8 * at);
+        let marks = mask::stick_byte(size, bitmap, vertical, at, row);
+        let count = mask::run_length(columns, 8 * at);
         let b = first_wrong_fast(table, start + 8 * at, count, marks);
         if b < count {
             return 8 * at + b;

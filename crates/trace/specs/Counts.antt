@@ -1,7 +1,7 @@
 -- Counts: "the inside samples and the sticks, by counting ones in the row bytes, and the contours".
 use Prim.Native.Nat.{ℕ}
 use Rattle.grid.specs.Layer.{Layer}
-use Rattle.grid.specs.Counts.{insideCount, stickCount}
+use Rattle.mask.specs.Counts.{insideCount, stickCount}
 use Rattle.grid.specs.Questions.{firstNo, ifAllYes, numberOf}
 use Rattle.contour.specs.Contours.{contourCount}
 use Rattle.table.specs.Entries.{lengthQuestions}

@@ -28,8 +28,8 @@ pub fn counts(w: u16, h: u16, bitmap: &[u8], table: &[u16]) -> Counted
     let answer = table::ask_lengths(size, bitmap, table.len());
     match answer {
         Answer::Yes => Counted::Done {
-            inside: grid::inside_count(size, bitmap),
-            sticks: grid::stick_count(size, bitmap),
+            inside: mask::inside_count(size, bitmap),
+            sticks: mask::stick_count(size, bitmap),
             contours: contour::count_contours(size, bitmap),
         },
         Answer::No(q, place) => Counted::Refused(q, place),

@@ -45,8 +45,8 @@ fn fill_row(size: Size, bitmap: &[u8], table: &mut [u16], vertical: bool, row: u
     let start = grid::row_start(size, vertical, row);
     let mut at = 0;
     while 8 * at < columns {
-        let marks = grid::stick_byte(size, bitmap, vertical, at, row);
-        let count = grid::run_length(columns, 8 * at);
+        let marks = mask::stick_byte(size, bitmap, vertical, at, row);
+        let count = mask::run_length(columns, 8 * at);
         fill_run(table, start + 8 * at, count, marks);
         at += 1;
     }

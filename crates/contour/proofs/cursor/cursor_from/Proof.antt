@@ -2,7 +2,7 @@
 use mathlib.Core.Path.{_≡_, refl, sym, ap, _∙_}
 use borrow.Author.Needs.{needs}
 use lib.Dec.{ltb}
-use Rattle.contour.specs.Sets.{nextIn}
+use Rattle.bitset.specs.Sets.{nextIn}
 use Rattle.contour.proofs.Scans.{horizontal-fits}
 use Rattle.contour.proofs.Cursors.{reached}
 use Rattle.contour.proofs.cursor.cursor_from.Statement.{statement}

@@ -12,8 +12,9 @@ use Rattle.grid.specs.Layer.{layerOf}
 use Rattle.grid.specs.Edges.{isStick, number}
 use Rattle.contour.specs.Walk.{rest}
 use Rattle.contour.specs.Contours.{walkOf, contourOf}
-use Rattle.contour.specs.Sets.{words, setBits}
-use Rattle.contour.specs.Marking.{withNumber, markEdge}
+use Rattle.bitset.specs.Sets.{words, setBits}
+use Rattle.bitset.specs.Sets.{withNumber}
+use Rattle.contour.specs.Marking.{markEdge}
 use Rattle.contour.proofs.Loop.{Due, start, due-one, due-next, turn, shorter, last}
 use Rattle.contour.proofs.Sticks.{laws}
 use Rattle.contour.proofs.Scans.{horizontal-number, place-below, mark-vertical, mark-horizontal, length-mark}

@@ -6,7 +6,7 @@ use native.Mathlib.Omega.{arith}
 use borrow.Author.Needs.{needs}
 use Rattle.grid.specs.Layer.{layerOf}
 use Rattle.grid.specs.declared.edge.Edge.{Edge}
-use Rattle.contour.specs.Sets.{setBits}
+use Rattle.bitset.specs.Sets.{setBits}
 use Rattle.contour.proofs.Scans.{horizontal-number, stick-place, scan-set, scan-clear}
 use Rattle.contour.proofs.scan.scan_stick.Statement.{statement}
 use Rattle.contour.proofs.scan.scan_stick.Tie as tie

@@ -1,6 +1,6 @@
 -- `ask_layer_held` meets its contract.
 use borrow.Author.Needs.{needs}
-use Rattle.contour.proofs.Sets.{empty-set}
+use Rattle.bitset.proofs.Sets.{empty-set}
 use Rattle.held.proofs.question.ask_layer_held.Statement.{statement}
 use Rattle.held.proofs.question.ask_layer_held.Tie as tie
 

@@ -2,7 +2,7 @@
 use mathlib.Core.Path.{sym, _∙_}
 use borrow.Author.Needs.{needs}
 use Rattle.grid.specs.Layer.{layerOf, sizeOf}
-use Rattle.contour.proofs.Sets.{empty-set}
+use Rattle.bitset.proofs.Sets.{empty-set}
 use Rattle.held.proofs.Asking.{accepted-of}
 use Rattle.planner.proofs.Outcomes.{promised-accepted, promised-refused}
 use Rattle.planner.proofs.planning.plan.Statement.{statement}

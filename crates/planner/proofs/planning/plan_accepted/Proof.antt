@@ -10,17 +10,17 @@ use Rattle.planner.proofs.planning.plan_accepted.Tie as tie
 abbrev start : tie.After-kind-start → tie.Start
 start c = c .before .before .before .before .before .before
 
-contour-count-requires : tie.Need-contour-count-requires
-contour-count-requires c κs =
+member-count-requires : tie.Need-member-count-requires
+member-count-requires c κs =
     let given = start c .pre in
     let a = start c .args in
     counted-below (layerOf (a .size) (a .bitmap .now)) (given .0 .sound) (a .set .now) (given .1) _ (c .kind-start .ensures)
 
-counts : (c : tie.After-contour-count)
+counts : (c : tie.After-member-count)
     → let a = start (c .before) .args in
-    Tallies (layerOf (a .size) (a .bitmap .now)) (a .table .now) (c .before .before .count-kept .result) (c .contour-count .result)
+    Tallies (layerOf (a .size) (a .bitmap .now)) (a .table .now) (c .before .before .count-kept .result) (c .member-count .result)
 counts c =
-    let given = start (c .before) .pre in tallied (given .0) (given .1) (c .before .before .count-kept .ensures) (c .contour-count .ensures)
+    let given = start (c .before) .pre in tallied (given .0) (given .1) (c .before .before .count-kept .ensures) (c .member-count .ensures)
 
 add-if1 : tie.Need-add-if1
 add-if1 c = omega (arith, tallies-fit (counts c))
@@ -54,5 +54,5 @@ returns-3 c =
 pub plan-accepted-spec : {M : Type 1} → statement M
 plan-accepted-spec =
     tie.close
-    (tie.spec (λ c κs. search needs) (λ c κs. search needs) contour-count-requires add-if1 returns (λ c. search needs) returns-2
+    (tie.spec (λ c κs. search needs) (λ c κs. search needs) member-count-requires add-if1 returns (λ c. search needs) returns-2
     write-contours-requires (λ c. search needs) (λ c. search needs) returns-3)

@@ -7,9 +7,10 @@ use Rattle.grid.specs.Layer.{layerOf}
 use Rattle.grid.specs.Questions.{firstNo}
 use Rattle.grid.specs.declared.question.Answer.the-variants.{Yes}
 use Rattle.grid.proofs.Answers.{firstNo-yes}
-use Rattle.contour.proofs.Sets.{empty-set}
+use Rattle.bitset.proofs.Sets.{empty-set}
 use Rattle.held.specs.Held.{heldAnswer}
-use Rattle.reading.specs.Reading.{sheetAnswer, described}
+use Rattle.formed.specs.Expected.{sheetAnswer}
+use Rattle.reading.specs.Reading.{described}
 use Rattle.reading.specs.Places.{sheetQuestions, answeredBy}
 use Rattle.reading.proofs.read.read_against.Statement.{statement}
 use Rattle.reading.proofs.read.read_against.Tie as tie

@@ -2,7 +2,7 @@
 use mathlib.Core.Path.{sym, _∙_}
 use borrow.Author.Needs.{needs}
 use Rattle.grid.specs.Layer.{layerOf, sizeOf}
-use Rattle.contour.proofs.Sets.{empty-set}
+use Rattle.bitset.proofs.Sets.{empty-set}
 use Rattle.sheet.proofs.Answered.{written-no}
 use Rattle.sheet.proofs.write.write_sheet.Statement.{statement}
 use Rattle.sheet.proofs.write.write_sheet.Tie as tie

@@ -4,7 +4,7 @@ use borrow.Author.Needs.{needs}
 use Rattle.grid.specs.Layer.{layerOf, sizeOf}
 use Rattle.grid.specs.Questions.{firstNo}
 use Rattle.grid.specs.declared.question.Answer.the-variants.{Yes}
-use Rattle.contour.proofs.Sets.{empty-set}
+use Rattle.bitset.proofs.Sets.{empty-set}
 use Rattle.held.specs.Questions.{keptQuestions}
 use Rattle.smooth.specs.Smooth.{Smoothable}
 use Rattle.smooth.proofs.Held.{smoothable-of, outcome-done, outcome-refused}

@@ -8,7 +8,7 @@ use lib.ListN.{getD}
 use Rattle.arith.specs.Ranges.{least}
 use Rattle.arith.proofs.Ranges.{least-none}
 use Rattle.grid.specs.Layer.{bit}
-use Rattle.grid.proofs.Masks.{bit-past}
+use Rattle.grid.proofs.Bits.{bit-past}
 use Rattle.table.specs.Entries.{entryOf, wrong, wrongFrom}
 use Rattle.table.proofs.question.first_wrong_fast.Statement.{statement}
 use Rattle.table.proofs.question.first_wrong_fast.Tie as tie

@@ -4,7 +4,7 @@ use Prim.Native.Nat.{ℕ}
 use borrow.Author.Needs.{needs}
 use lib.ListN.{length}
 use Rattle.grid.specs.Layer.{Layer, layerOf, sizeOf}
-use Rattle.grid.specs.Counts.{insideCount, stickCount}
+use Rattle.mask.specs.Counts.{insideCount, stickCount}
 use Rattle.grid.specs.Questions.{firstNo, ifAllYes, numberOf, Sound}
 use Rattle.grid.specs.declared.question.Answer.{Answer}
 use Rattle.grid.specs.declared.question.Answer.the-variants.{Yes, No}
