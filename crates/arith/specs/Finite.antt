@@ -1,7 +1,7 @@
 -- Functions on finitely many numbers: what the least that passes a test is, and sums.
 use mathlib.Core.Path.{_≡_}
 use mathlib.Core.Bool.{Bool, true, false}
-use Prim.Native.Nat.{ℕ, zero, suc, _+_, _-_, _≤_, _<_}
+use Prim.Native.Nat.{ℕ, zero, suc, _+_, _≤_, _<_}
 
 -- r is the least of the n numbers from i on that passes the test, or i + n if none does
 pub record Least (f : ℕ → Bool) (i n r : ℕ) : Type 0 where

@@ -1,5 +1,5 @@
 -- The two parts of an integer of `lib.IntN`: z is up z − dn z, and one of them is 0.
-use Prim.Native.Nat.{ℕ, suc, _-_}
+use Prim.Native.Nat.{ℕ, suc}
 use lib.IntN.{ℤ, pos, negsuc}
 
 abbrev pub up : ℤ → ℕ

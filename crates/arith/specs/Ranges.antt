@@ -2,7 +2,7 @@
 -- range of entries is replaced.
 use mathlib.Core.Bool.{Bool, cond}
 use mathlib.Core.List.{List, [], _∷_}
-use Prim.Native.Nat.{ℕ, zero, suc, _+_, _-_}
+use Prim.Native.Nat.{ℕ, zero, suc, _+_}
 use lib.ListN.{set}
 use Rattle.arith.specs.Booleans.{asNumber}
 

@@ -15,7 +15,7 @@ use Rattle.grid.specs.Edges.{number, edgeAt, edgeCount, kindStart, isStick}
 use Rattle.grid.specs.declared.edge.Edge.{Edge}
 use Rattle.grid.proofs.Numbers.{kind-below}
 use Rattle.contour.specs.Walk.{first, firstsAmong, firstsFrom}
-use Rattle.contour.specs.Contours.{walkOf, firstSticks}
+use Rattle.contour.specs.Contours.{walkOf}
 use Rattle.bitset.specs.Sets.{has, nextIn}
 use Rattle.contour.specs.Sets.{FirstSet}
 use Rattle.contour.specs.Cursors.{left, Placed, Reached, Opened, Moved}

@@ -2,7 +2,7 @@
 -- with two kept vertices, a stick without a vertex, a kept vertex off all sticks, a number off sticks that is no entry, and an entry too many.
 -- Two other layers refuse one more each: an edge that touches a sample, and edges that meet.
 use mathlib.Core.Path.{_≡_, refl, sym, ap, _∙_}
-use mathlib.Core.Logic.{_⊎_, inl, inr, _≢_}
+use mathlib.Core.Logic.{inl, inr, _≢_}
 use mathlib.Core.Bool.{Bool, true, false, true≢false, false≢true, not, xor}
 use mathlib.Core.List.{List, [], _∷_, _++_}
 use Prim.Native.Nat.{ℕ, _+_, _*_, _<_}

@@ -1,17 +1,17 @@
 -- Questions and their answers: how a search for the lowest place answers one, and what a yes says.
 use mathlib.Core.Path.{_≡_, refl, ap, sym, _∙_}
-use mathlib.Core.Bool.{Bool, true, false, cond, _&&_}
+use mathlib.Core.Bool.{Bool, true, false}
 use mathlib.Core.List.{List, [], _∷_, _++_}
-use Prim.Native.Nat.{ℕ, _+_, _*_, _/_, _%_, _≤_, _<_}
+use Prim.Native.Nat.{ℕ, _+_, _*_, _≤_, _<_}
 use native.Mathlib.Omega.{arith}
 use borrow.Author.Tests.{lt-ltb, le-ltb, leb-true, ltb-false, eqb-true}
 use lib.Arith.{digits-div, digits-mod, digits-lt}
-use lib.Dec.{leb, ltb, eqb}
+use lib.Dec.{leb, ltb}
 use lib.ListN.{length}
 use Rattle.arith.proofs.Booleans.{both-sides, and-split}
 use Rattle.arith.specs.Ranges.{least}
-use Rattle.arith.proofs.Ranges.{least-is, least-none, leastFrom-below, leastFrom-le}
-use Rattle.grid.specs.Layer.{Layer, stride}
+use Rattle.arith.proofs.Ranges.{least-is, least-none, leastFrom-below}
+use Rattle.grid.specs.Layer.{Layer}
 use Rattle.grid.specs.Questions.{numberOf, firstNo, ask, askEach, inRange, sidesAnswer, lengthAnswer, spareSet, spareAnswer, borderIn, borderAt, borderAnswer, layerQuestions, Sized, Whole, Sound}
 use Rattle.grid.specs.declared.layer.Size.{Size}
 use Rattle.grid.specs.declared.question.Refusal.{Refusal}

@@ -1,14 +1,14 @@
 -- The numbers of grid edges: each edge in the grid has one below `edgeCount`, and the number tells the edge.
-use mathlib.Core.Path.{_≡_, refl, ap, ap₂, sym, _∙_}
-use mathlib.Core.Bool.{Bool, true, false, cond}
-use Prim.Native.Nat.{ℕ, _+_, _-_, _*_, _/_, _%_, _≤_, _<_}
+use mathlib.Core.Path.{_≡_, ap, ap₂, sym, _∙_}
+use mathlib.Core.Bool.{Bool, true, false}
+use Prim.Native.Nat.{ℕ, _+_, _-_, _*_, _≤_, _<_}
 use native.Mathlib.Nat.{zero-add, add-assoc, mul-le-mul, mul-comm, div-add-mod', div-lt-iff-lt-mul, mod-lt}
 use native.Mathlib.Decide.{decLt}
 use native.Mathlib.Omega.{arith}
 use borrow.Author.Tests.{ltb-true, lt-ltb, le-ltb}
 use lib.Arith.{digits-lt, digits-div, digits-mod}
 use lib.Dec.{ltb}
-use Rattle.arith.proofs.Booleans.{both-sides, and-split}
+use Rattle.arith.proofs.Booleans.{and-split}
 use Rattle.grid.specs.Layer.{stride}
 use Rattle.grid.specs.Edges.{edgeColumns, edgeRows, inGrid, kindStart, rowStart, number, edgeCount, edgeIn, edgeAt}
 use Rattle.grid.specs.Questions.{Sized}

@@ -28,7 +28,7 @@ use Rattle.run.specs.Runs.{passes}
 use Rattle.simplify.specs.Call.{simplifyOf}
 use Rattle.edit.specs.Edits.{edgeWithin}
 use Rattle.roll.specs.Roll.{rollOf}
-use Rattle.guarantee.specs.Cases.{Cases, single, traced, offsets, blank, bar, barTable, stick, vertexOn, innerSample}
+use Rattle.guarantee.specs.Cases.{Cases, offsets, blank, bar, barTable, stick, vertexOn, innerSample}
 
 -- `On`, by tests that compute on written-out points
 on : {z : Point} {p q : Position} → fromX z p *ℤ fromY z q -ℤ fromY z p *ℤ fromX z q ≡ pos 0

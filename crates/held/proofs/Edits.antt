@@ -14,7 +14,7 @@ use Rattle.grid.specs.Edges.{isStick, edgeCount}
 use Rattle.grid.specs.Questions.{Sound}
 use Rattle.grid.specs.declared.edge.Edge.{Edge}
 use Rattle.grid.specs.declared.question.Answer.the-variants.{Yes}
-use Rattle.contour.specs.Walk.{first, OnContour}
+use Rattle.contour.specs.Walk.{OnContour}
 use Rattle.contour.specs.Contours.{walkOf, contourOf, sameEdge}
 use Rattle.contour.proofs.Orbit.{unlike}
 use Rattle.contour.proofs.First.{first-one}

@@ -14,7 +14,6 @@ use Rattle.grid.specs.declared.question.Answer.the-variants.{Yes, No}
 use Rattle.contour.specs.Contours.{contourOf, firstSticks, walkOf}
 use Rattle.contour.specs.Walk.{first}
 use Rattle.chord.specs.Points.{Crosses}
-use Rattle.chord.specs.Crossing.{crosses}
 use Rattle.table.specs.Vertices.{keptAt}
 use Rattle.drawn.specs.Neighbours.{nextKept}
 use Rattle.drawn.specs.Drawn.{vertex, Drawn, BetweenEnds, drawnOf, starts, edgeCrosses}

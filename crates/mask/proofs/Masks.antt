@@ -1,22 +1,18 @@
 -- Bits of the bytes of a row, and of a byte against another: where they mark the sticks.
-use mathlib.Core.Path.{_≡_, refl, ap, ap₂, sym, subst, _∙_}
-use mathlib.Core.Bool.{Bool, true, false, cond, xor, _&&_, and-false}
-use mathlib.Core.Logic.{⊎-elim}
+use mathlib.Core.Path.{_≡_, ap, ap₂, sym, _∙_}
+use mathlib.Core.Bool.{true, false, xor, and-false}
 use Prim.Native.Nat.{ℕ, zero, suc, _+_, _-_, _*_, _/_, _%_, _^_, _≤_, _<_}
-use native.Mathlib.Decide.{decLt, ℕ-discrete}
-use native.Mathlib.Nat.{mod-lt, div-eq-of-lt, lt-of-lt-of-le, zero-div}
+use native.Mathlib.Decide.{decLt}
 use native.Mathlib.Omega.{arith}
 use borrow.Author.Tests.{ltb-false, lt-ltb, le-ltb}
 use lib.Arith.{digits-mod}
 use lib.Bits.{bitXor}
 use lib.Dec.{eqb, ltb}
 use lib.ListN.{getD}
-use Rattle.arith.proofs.Booleans.{both-sides}
 use Rattle.grid.specs.Layer.{Layer, stride, rowByte, bit, sample, follows}
 use Rattle.grid.specs.Edges.{isStick, StickBits}
-use Rattle.grid.specs.Questions.{Whole, Sound, spareSet}
-use Rattle.grid.specs.declared.edge.Edge.{Edge}
-use Rattle.grid.proofs.Samples.{byte-below, last-byte}
+use Rattle.grid.specs.Questions.{Whole, Sound}
+use Rattle.grid.proofs.Samples.{byte-below}
 use Rattle.grid.proofs.Borders.{east, on-border}
 use Rattle.grid.proofs.Bits.{bit-xor, bit-past}
 

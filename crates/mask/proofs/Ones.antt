@@ -1,20 +1,16 @@
 -- The ones of bytes, row by row and kind by kind, add up to the samples and edges of a layer.
-use mathlib.Core.Path.{_≡_, refl, ap, ap₂, sym, _∙_}
-use mathlib.Core.Bool.{Bool, true, false, cond, _&&_}
-use Prim.Native.Nat.{ℕ, zero, suc, _+_, _-_, _*_, _/_, _%_, _^_, _≤_, _<_}
-use native.Mathlib.Nat.{add-zero, zero-add, add-assoc, div-one, mod-lt, div-eq-of-lt}
-use native.Mathlib.Numerals.{add-one}
+use mathlib.Core.Path.{_≡_, ap, ap₂, sym, _∙_}
+use mathlib.Core.Bool.{Bool, true, false}
+use Prim.Native.Nat.{ℕ, _+_, _-_, _*_, _≤_, _<_}
+use native.Mathlib.Nat.{add-zero, zero-add}
 use native.Mathlib.Omega.{arith}
-use borrow.Author.Tests.{le-ltb, eq-eqb, ne-eqb}
+use borrow.Author.Tests.{le-ltb}
 use lib.Arith.{digits-div, digits-mod}
-use lib.Dec.{eqb}
-use Rattle.arith.specs.Booleans.{asNumber}
 use Rattle.arith.specs.Ranges.{count}
 use Rattle.arith.proofs.Ranges.{count-add, count-same, count-none}
-use Rattle.grid.specs.Layer.{Layer, stride, rowByte, bit, sample, sampleIn, sampleAt}
-use Rattle.grid.specs.Edges.{edgeColumns, edgeRows, edgeCount, edgeIn, edgeAt, inGrid, isStick, stickIn, stickOf, stickAt, StickBits}
-use Rattle.grid.specs.Questions.{Sized, Sound}
-use Rattle.grid.specs.declared.edge.Edge.{Edge}
+use Rattle.grid.specs.Layer.{Layer, stride, rowByte, bit, sampleIn, sampleAt}
+use Rattle.grid.specs.Edges.{edgeColumns, edgeRows, edgeCount, isStick, stickIn, stickOf, stickAt, StickBits}
+use Rattle.grid.specs.Questions.{Sound}
 use Rattle.mask.proofs.Masks.{sample-bit, sample-spare}
 use Rattle.grid.proofs.Numbers.{edges-split, edgeIn-at, edgeAt-kind}
 

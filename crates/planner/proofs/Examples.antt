@@ -3,7 +3,7 @@ use mathlib.Core.Path.{_≡_, refl}
 use mathlib.Core.Bool.{false, xor}
 use mathlib.Core.List.{List, [], _∷_, flatten}
 use Prim.Native.Nat.{ℕ}
-use lib.IntN.{ℤ, pos, negsuc}
+use lib.IntN.{pos, negsuc}
 use lib.Ieee.{Float, fin, nan, ofInt, div}
 use Rattle.arith.specs.Ranges.{leastFrom}
 use Rattle.grid.specs.Layer.{Layer, layerOf, sizeOf, sample, bit}
@@ -18,7 +18,7 @@ use Rattle.drawn.specs.Neighbours.{removedFrom, keptFrom}
 use Rattle.drawn.specs.Drawn.{edgeCrosses}
 use Rattle.held.specs.Held.{heldContour, heldAnswer}
 use Rattle.planner.specs.Items.{inSamples}
-use Rattle.planner.specs.Plan.{Outcome, roomAnswer, answered, planOf}
+use Rattle.planner.specs.Plan.{roomAnswer, answered, planOf}
 
 -- "W 3, H 3, inside (1,1)", every stick kept at 128
 abbrev single : Layer

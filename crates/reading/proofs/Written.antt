@@ -16,9 +16,9 @@ use Rattle.grid.specs.Layer.{Layer}
 use Rattle.grid.specs.Edges.{number, edgeAt, edgeCount, isStick, stickAt}
 use Rattle.grid.specs.Questions.{firstNo, Sound}
 use Rattle.grid.specs.declared.edge.Edge.{Edge}
-use Rattle.grid.specs.declared.question.Refusal.the-variants.{WrongEntry, Malformed}
+use Rattle.grid.specs.declared.question.Refusal.the-variants.{WrongEntry}
 use Rattle.grid.specs.declared.question.Answer.the-variants.{Yes}
-use Rattle.grid.proofs.Answers.{no-not-yes, each-all, append-all, append-yes}
+use Rattle.grid.proofs.Answers.{each-all, append-all, append-yes}
 use Rattle.grid.proofs.Numbers.{edgeAt-within}
 use Rattle.contour.specs.Walk.{occurrences}
 use Rattle.contour.specs.Contours.{walkOf, contourOf, firstSticks}

@@ -8,7 +8,6 @@ use Rattle.arith.specs.Ranges.{tabulate}
 use Rattle.grid.specs.Layer.{Layer}
 use Rattle.grid.specs.Edges.{edgeCount}
 use Rattle.grid.specs.Questions.{firstNo, ifAllYes, numberOf}
-use Rattle.grid.specs.declared.edge.Edge.{Edge}
 use Rattle.table.specs.Entries.{encoded, lengthQuestions}
 use Rattle.table.specs.Stores.{store}
 use Rattle.table.specs.declared.entry.Entry.{Entry}

@@ -1,6 +1,6 @@
 -- Contours do not touch each other's entries: simplifying one changes no entry of another, and what it does depends on its own entries
 -- alone. So the contours may be simplified in any order.
-use mathlib.Core.Path.{_≡_, refl, sym, _∙_, ap}
+use mathlib.Core.Path.{_≡_, sym, _∙_, ap}
 use mathlib.Core.Logic.{_≢_}
 use mathlib.Core.Bool.{true}
 use mathlib.Core.List.{List}

@@ -1,8 +1,7 @@
 -- The paper's example of the layer program and its refusals, by running the definitions.
 use mathlib.Core.Path.{_≡_, refl}
 use mathlib.Core.Bool.{xor}
-use mathlib.Core.List.{List, [], _∷_}
-use Prim.Native.Nat.{ℕ}
+use mathlib.Core.List.{[], _∷_}
 use Rattle.arith.specs.Ranges.{tabulateFrom, leastFrom, count}
 use Rattle.grid.specs.Layer.{sample, bit}
 use Rattle.grid.specs.Edges.{number, edgeCount, edgeAt, isStick}

@@ -1,7 +1,7 @@
 -- The program reads one byte more than the longest input that is not refused has: that is enough, since an input has the answer of the bytes
 -- that are read of it. A bitmap longer than 64 rows of 8 bytes is refused by question 2.
 use mathlib.Core.Path.{_≡_, refl, sym, ap, _∙_}
-use mathlib.Core.Bool.{true, false}
+use mathlib.Core.Bool.{true}
 use mathlib.Core.List.{List}
 use Prim.Native.Nat.{ℕ, _+_, _*_, _/_, _≤_, _<_}
 use native.Mathlib.Nat.{mul-le-mul}

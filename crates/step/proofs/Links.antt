@@ -1,7 +1,7 @@
 -- The links of the sixteen patterns. Each law is a test that antt computes over all patterns and sides, and `at` turns a test into the law.
 use mathlib.Core.Path.{_≡_, refl, ap, sym, _∙_}
-use mathlib.Core.Bool.{Bool, true, false, not, _&&_, _||_, xor, Bool·beq}
-use Prim.Native.Nat.{ℕ, _<_}
+use mathlib.Core.Bool.{Bool, true, not, _&&_, _||_, xor, Bool·beq}
+use Prim.Native.Nat.{_<_}
 use native.Mathlib.Omega.{arith}
 use lib.Dec.{T, eqb, eqb→eq}
 use Rattle.arith.specs.Booleans.{all}

@@ -6,7 +6,7 @@ use native.Mathlib.Omega.{arith}
 use Rattle.grid.specs.Layer.{Layer}
 use Rattle.grid.specs.declared.edge.Edge.{Edge}
 use Rattle.step.specs.Cells.{Corners, corners, index, linkedIn, edgeOn}
-use Rattle.step.specs.Turns.{near, nearBy, acrossCount, known, Entered, leaving}
+use Rattle.step.specs.Turns.{near, acrossCount, known, Entered, leaving}
 use Rattle.step.specs.declared.cell.Side.{Side}
 use Rattle.step.specs.declared.cell.Side.the-variants.{South, East, North, West}
 use Rattle.step.proofs.Links.{links-rule}

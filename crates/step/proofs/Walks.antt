@@ -1,11 +1,10 @@
 -- Successor and predecessor on a layer that passes questions 1 to 4: both lead from stick to stick within the grid, each undoes the other,
 -- and successive sticks are two different sides of one cell, which the walk enters by the first and leaves by the second.
 use mathlib.Core.Path.{_≡_, refl, ap, sym, subst, _∙_}
-use mathlib.Core.Bool.{Bool, true, false, true≢false, false≢true, cond, not, xor, _&&_, _||_, Bool·beq}
+use mathlib.Core.Bool.{Bool, true, false, true≢false, false≢true, cond, not, xor, _&&_, Bool·beq}
 use Prim.Native.Nat.{ℕ, _+_, _-_, _≤_, _<_}
 use native.Mathlib.Decide.{ℕ-discrete}
 use native.Mathlib.Omega.{arith}
-use borrow.Author.Tests.{lt-ltb}
 use lib.Dec.{T}
 use Rattle.arith.proofs.Booleans.{and-split, beq→eq}
 use Rattle.grid.specs.Layer.{Layer, sample}
@@ -14,9 +13,9 @@ use Rattle.grid.specs.Questions.{Sound, onBorder}
 use Rattle.grid.specs.declared.edge.Edge.{Edge}
 use Rattle.grid.proofs.Borders.{west, east, bottom, top}
 use Rattle.grid.proofs.Numbers.{WithinGrid, within, in-grid}
-use Rattle.step.specs.Cells.{corners, cut, partner, link, edgeOf}
+use Rattle.step.specs.Cells.{corners, cut, link, edgeOf}
 use Rattle.step.specs.Walk.{upward, beside, ahead, behind, next, prev}
-use Rattle.step.specs.Turns.{insideLeft, near, nearBy, Entered, leaving}
+use Rattle.step.specs.Turns.{insideLeft, nearBy, Entered, leaving}
 use Rattle.step.specs.declared.cell.CellSide.{CellSide}
 use Rattle.step.specs.declared.cell.Side.{Side}
 use Rattle.step.specs.declared.cell.Side.the-variants.{South, East, North, West}

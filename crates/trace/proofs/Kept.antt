@@ -4,7 +4,7 @@ use mathlib.Core.Bool.{true}
 use mathlib.Core.List.{List}
 use Prim.Native.Nat.{ℕ}
 use native.Mathlib.Omega.{arith}
-use lib.ListN.{length, getD}
+use lib.ListN.{length}
 use Rattle.arith.specs.Ranges.{tabulate}
 use Rattle.arith.proofs.Ranges.{length-tabulateFrom, getD-tabulate}
 use Rattle.grid.specs.Layer.{Layer}

@@ -1,6 +1,6 @@
 -- How a digest takes in a list, entry by entry: what a loop over the list keeps, a turn of it, and its end.
 -- The list is any, so that the digest of a table and that of bytes cite the same laws.
-use mathlib.Core.Path.{_≡_, _∙_}
+use mathlib.Core.Path.{_≡_}
 use mathlib.Core.List.{List, foldl}
 use Prim.Native.Nat.{ℕ, _+_, _≤_, _<_}
 use native.Mathlib.Numerals.{add-one}

@@ -1,7 +1,6 @@
 -- `kept_before` meets its contract. The invariant: the walk from e has passed only removed sticks, fewer than its contour has sticks.
 -- `given` and `entry` say what is known at the loop and of the stick after the step; the walk's laws are those of GapWalk.
 use mathlib.Core.Path.{_≡_, sym, ap, _∙_}
-use mathlib.Core.Bool.{true, false}
 use Prim.Native.Nat.{_-_, _<_}
 use native.Mathlib.Omega.{arith}
 use borrow.Author.Needs.{needs}

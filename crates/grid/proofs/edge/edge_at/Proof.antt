@@ -1,8 +1,6 @@
 -- `edge_at` meets its contract.
 use borrow.Author.Needs.{needs}
-use native.Mathlib.Omega.{arith}
 use borrow.Author.Tests.{lt-ltb, le-ltb}
-use mathlib.Core.Path.{_∙_, sym}
 use Rattle.grid.specs.Edges.{edgeAt}
 use Rattle.grid.proofs.edge.edge_at.Statement.{statement}
 use Rattle.grid.proofs.edge.edge_at.Tie as tie

@@ -2,7 +2,6 @@
 use Prim.Native.Nat.{_+_, _*_, _≤_}
 use native.Mathlib.Omega.{arith}
 use borrow.Author.Needs.{needs}
-use Rattle.grid.specs.Edges.{edgeCount}
 use Rattle.grid.proofs.Numbers.{row-fits, edges-small}
 use Rattle.grid.proofs.edge.row_start.Statement.{statement}
 use Rattle.grid.proofs.edge.row_start.Tie as tie

@@ -1,5 +1,4 @@
 -- `is_inside` meets its contract.
-use native.Mathlib.Omega.{arith}
 use borrow.Author.Needs.{needs}
 use Rattle.grid.specs.Layer.{sample, bit}
 use Rattle.grid.proofs.layer.is_inside.Statement.{statement}

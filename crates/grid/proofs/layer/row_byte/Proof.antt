@@ -1,6 +1,5 @@
 -- `row_byte` meets its contract: the byte's place is below the bitmap's length.
 use Prim.Native.Nat.{_+_, _*_, _<_}
-use mathlib.Core.Path.{_≡_}
 use native.Mathlib.Omega.{arith}
 use borrow.Author.Needs.{needs}
 use lib.ListN.{length}

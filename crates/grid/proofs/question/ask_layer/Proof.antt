@@ -1,9 +1,9 @@
 -- `ask_layer` meets its contract.
-use mathlib.Core.Path.{_≡_, sym, _∙_}
+use mathlib.Core.Path.{sym, _∙_}
 use mathlib.Core.List.{[], _∷_}
 use borrow.Author.Needs.{needs}
-use Rattle.grid.specs.Layer.{Layer, layerOf}
-use Rattle.grid.specs.Questions.{sidesAnswer, lengthAnswer, spareAnswer, borderAnswer, Sized, Whole}
+use Rattle.grid.specs.Layer.{layerOf}
+use Rattle.grid.specs.Questions.{lengthAnswer, spareAnswer, borderAnswer}
 use Rattle.grid.proofs.Answers.{first-no, first-yes, first-only, sized-of, whole-of}
 use Rattle.grid.proofs.question.ask_layer.Statement.{statement}
 use Rattle.grid.proofs.question.ask_layer.Tie as tie

@@ -1,5 +1,5 @@
 -- `ask_sides` meets its contract.
-use mathlib.Core.Path.{_≡_, sym, _∙_}
+use mathlib.Core.Path.{sym, _∙_}
 use borrow.Author.Tests.{not-true, not-false}
 use borrow.Author.Needs.{needs}
 use Rattle.grid.specs.Questions.{sidesAnswer}

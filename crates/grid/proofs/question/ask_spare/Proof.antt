@@ -6,7 +6,7 @@ use native.Mathlib.Omega.{arith}
 use borrow.Author.Needs.{needs}
 use lib.ListN.{length}
 use Rattle.arith.proofs.Ranges.{below-add}
-use Rattle.grid.specs.Layer.{layerOf, stride, rowEnd}
+use Rattle.grid.specs.Layer.{layerOf, stride}
 use Rattle.grid.specs.Questions.{spareSet, spareAnswer}
 use Rattle.grid.specs.declared.question.Refusal.the-variants.{SpareBits}
 use Rattle.grid.proofs.Samples.{byte-below, last-byte, spare-inner, spare-row}

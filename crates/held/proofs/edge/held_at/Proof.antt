@@ -2,7 +2,6 @@
 use mathlib.Core.Path.{_≡_, sym, ap, _∙_}
 use borrow.Author.Needs.{needs}
 use Rattle.grid.specs.Layer.{layerOf}
-use Rattle.contour.proofs.Sticks.{stick-in}
 use Rattle.chord.specs.Runs.{crossesRun}
 use Rattle.table.specs.Vertices.{offsetAt}
 use Rattle.table.proofs.Lent.{has-entry}

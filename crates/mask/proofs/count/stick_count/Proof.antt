@@ -1,10 +1,10 @@
 -- `stick_count` meets its contract.
-use mathlib.Core.Path.{_≡_, ap, ap₂, sym, _∙_}
-use Prim.Native.Nat.{ℕ, _+_, _-_, _*_, _≤_, _<_}
+use mathlib.Core.Path.{_≡_, ap₂, sym, _∙_}
+use Prim.Native.Nat.{_+_, _-_}
 use native.Mathlib.Omega.{arith}
 use borrow.Author.Needs.{needs}
 use Rattle.arith.specs.Ranges.{count}
-use Rattle.arith.proofs.Ranges.{count-zero, count-le}
+use Rattle.arith.proofs.Ranges.{count-le}
 use Rattle.grid.specs.Layer.{layerOf}
 use Rattle.grid.specs.Edges.{edgeCount, stickAt}
 use Rattle.mask.proofs.Ones.{sticks-kinds}

@@ -1,5 +1,4 @@
 -- `shifted_byte` meets its contract.
-use mathlib.Core.Path.{_≡_, sym}
 use borrow.Author.Needs.{needs}
 use Rattle.grid.specs.Layer.{layerOf}
 use Rattle.mask.proofs.Masks.{follows-joined, follows-ended}

@@ -1,6 +1,4 @@
 -- `stick_byte` meets its contract.
-use mathlib.Core.Path.{_≡_, sym}
-use mathlib.Core.Bool.{true, false}
 use Prim.Native.Nat.{_+_, _<_}
 use native.Mathlib.Omega.{arith}
 use Rattle.grid.specs.Layer.{layerOf}

@@ -1,5 +1,4 @@
 -- `entry_count` meets its contract.
-use mathlib.Core.Path.{_≡_, sym}
 use native.Mathlib.Omega.{arith}
 use Rattle.grid.specs.Layer.{sizeOf}
 use Rattle.slicing.proofs.Bounds.{small-of, edges-few}

@@ -1,7 +1,6 @@
 -- `linked_in` meets its contract: its table is that of the definitions.
 use native.Mathlib.Omega.{arith}
 use borrow.Author.Needs.{needs}
-use mathlib.Core.Path.{_≡_}
 use Prim.Native.Nat.{_<_}
 use Rattle.step.proofs.Links.{sideIndex-below}
 use Rattle.step.proofs.cell.linked_in.Statement.{statement}

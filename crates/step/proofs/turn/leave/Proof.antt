@@ -1,6 +1,6 @@
 -- `leave` meets its contract.
 use borrow.Author.Needs.{needs}
-use mathlib.Core.Path.{_≡_, ap, _∙_}
+use mathlib.Core.Path.{ap, _∙_}
 use Rattle.step.specs.Cells.{edgeOn}
 use Rattle.step.proofs.turn.leave.Statement.{statement}
 use Rattle.step.proofs.turn.leave.Tie as tie

@@ -1,5 +1,5 @@
 -- `is_upward` meets its contract.
-use mathlib.Core.Path.{_≡_, ap}
+use mathlib.Core.Path.{ap}
 use mathlib.Core.Bool.{not}
 use Rattle.grid.specs.Layer.{layerOf}
 use Rattle.step.proofs.Walks.{stick-sample}

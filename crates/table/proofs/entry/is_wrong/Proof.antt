@@ -1,5 +1,5 @@
 -- `is_wrong` meets its contract.
-use mathlib.Core.Path.{_≡_, ap, sym, _∙_}
+use mathlib.Core.Path.{ap, sym, _∙_}
 use mathlib.Core.Bool.{not, Bool·not-not}
 use borrow.Author.Needs.{needs}
 use Rattle.table.specs.Entries.{suits}

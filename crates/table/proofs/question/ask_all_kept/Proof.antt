@@ -10,7 +10,6 @@ use Rattle.grid.specs.declared.question.Refusal.the-variants.{SomeRemoved}
 use Rattle.table.specs.Vertices.{isRemoved}
 use Rattle.table.specs.Kept.{isRemovedAt, allKeptAnswer}
 use Rattle.grid.proofs.Answers.{each-no, each-yes}
-use Rattle.grid.proofs.Numbers.{edges-small}
 use Rattle.table.proofs.question.ask_all_kept.Statement.{statement}
 use Rattle.table.proofs.question.ask_all_kept.Tie as tie
 

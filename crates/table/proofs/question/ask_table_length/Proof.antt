@@ -1,5 +1,4 @@
 -- `ask_table_length` meets its contract.
-use mathlib.Core.Path.{_≡_}
 use borrow.Author.Tests.{eq-eqb, ne-eqb}
 use borrow.Author.Needs.{needs}
 use Rattle.table.specs.Entries.{tableLengthAnswer}

@@ -1,14 +1,13 @@
 -- `first_wrong` meets its contract. The invariant: no entry passed is wrong.
-use mathlib.Core.Path.{_≡_, refl, ap, sym, _∙_}
+use mathlib.Core.Path.{_≡_, sym, _∙_}
 use mathlib.Core.Bool.{false}
-use Prim.Native.Nat.{ℕ, _+_, _-_, _*_, _≤_, _<_}
+use Prim.Native.Nat.{ℕ, _-_, _≤_, _<_}
 use native.Mathlib.Omega.{arith}
 use borrow.Author.Needs.{needs}
 use borrow.Author.Count.{below-more}
-use lib.ListN.{getD}
 use Rattle.arith.proofs.Ranges.{least-is, least-none}
 use Rattle.grid.specs.Layer.{bit}
-use Rattle.table.specs.Entries.{wrong, wrongFrom}
+use Rattle.table.specs.Entries.{wrongFrom}
 use Rattle.table.proofs.question.first_wrong.Statement.{statement}
 use Rattle.table.proofs.question.first_wrong.Tie as tie
 

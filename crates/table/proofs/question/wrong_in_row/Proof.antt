@@ -1,5 +1,5 @@
 -- `wrong_in_row` meets its contract. The invariant: no entry passed in the row is wrong.
-use mathlib.Core.Path.{_≡_, refl, ap, sym, _∙_}
+use mathlib.Core.Path.{_≡_, sym, _∙_}
 use mathlib.Core.Bool.{false}
 use Prim.Native.Nat.{ℕ, _+_, _-_, _*_, _≤_, _<_}
 use native.Mathlib.Omega.{arith}
@@ -7,7 +7,7 @@ use borrow.Author.Needs.{needs}
 use lib.ListN.{length}
 use Rattle.arith.proofs.Ranges.{least-none}
 use Rattle.grid.specs.Layer.{layerOf}
-use Rattle.grid.specs.Edges.{edgeColumns, rowStart}
+use Rattle.grid.specs.Edges.{edgeColumns}
 use Rattle.grid.proofs.Numbers.{column-stride, columns-narrow, row-fits, edges-small}
 use Rattle.table.specs.Entries.{wrongIn}
 use Rattle.table.proofs.Runs.{run-found, run-passed}

@@ -1,5 +1,4 @@
 -- `entry_at` meets its contract.
-use mathlib.Core.Path.{_≡_}
 use borrow.Author.Tests.{eq-eqb, ne-eqb}
 use borrow.Author.Needs.{needs}
 use Rattle.grid.specs.Layer.{bit}

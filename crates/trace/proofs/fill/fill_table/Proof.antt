@@ -1,7 +1,7 @@
 -- `fill_table` meets its contract.
-use mathlib.Core.Path.{_≡_, refl, ap, sym, _∙_}
+use mathlib.Core.Path.{ap, _∙_}
 use mathlib.Core.Bool.{true}
-use Prim.Native.Nat.{ℕ, _+_, _-_, _*_, _≤_, _<_}
+use Prim.Native.Nat.{_-_, _*_}
 use borrow.Author.Needs.{needs}
 use Rattle.arith.specs.Ranges.{fill}
 use Rattle.grid.specs.Layer.{layerOf}
