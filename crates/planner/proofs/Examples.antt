@@ -17,7 +17,7 @@ use Rattle.table.specs.Vertices.{keptAt, removedAt, offsetAt}
 use Rattle.drawn.specs.Neighbours.{removedFrom, keptFrom}
 use Rattle.drawn.specs.Drawn.{edgeCrosses}
 use Rattle.held.specs.Held.{heldContour, heldAnswer}
-use Rattle.planner.specs.Items.{inSamples}
+use Rattle.item.specs.Items.{inSamples}
 use Rattle.planner.specs.Plan.{roomAnswer, answered, planOf}
 
 -- "W 3, H 3, inside (1,1)", every stick kept at 128

@@ -8,9 +8,10 @@ use lib.ListN.{length, length-append, length-map}
 use Rattle.grid.specs.Layer.{Layer}
 use Rattle.grid.specs.declared.edge.Edge.{Edge}
 use Rattle.drawn.specs.Drawn.{Ends, drawnOf, drawnAlong}
-use Rattle.planner.specs.Items.{itemsTo, itemsOf, contourItems, byteOf, bytesOf, floatsOf}
-use Rattle.planner.specs.declared.item.Item.{Item}
-use Rattle.planner.proofs.Writing.{floats-append}
+use Rattle.item.specs.Items.{byteOf, bytesOf, floatsOf}
+use Rattle.planner.specs.Items.{itemsTo, itemsOf, contourItems}
+use Rattle.item.specs.declared.item.Item.{Item}
+use Rattle.item.proofs.Writing.{floats-append}
 
 -- a number that two lists of items have together as each has it
 record Additive (size : List Item → ℕ) : Type 0 where

@@ -27,7 +27,8 @@ use Rattle.contour.proofs.Theorems.{first-sticks-only}
 use Rattle.drawn.specs.Drawn.{drawnOf, drawnAlong, drawnEdges}
 use Rattle.drawn.proofs.DrawnEdges.{drawn-many}
 use Rattle.held.specs.Questions.{Accepted}
-use Rattle.planner.specs.Items.{itemsOf, bytesOf, floatsOf}
+use Rattle.item.specs.Items.{bytesOf, floatsOf}
+use Rattle.planner.specs.Items.{itemsOf}
 use Rattle.planner.specs.Plan.{AnyOrder, roomAnswer}
 use Rattle.planner.specs.Writing.{keptEntry}
 use Rattle.planner.proofs.Lengths.{bytes-length, floats-length}

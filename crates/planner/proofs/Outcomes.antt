@@ -24,12 +24,14 @@ use Rattle.bitset.specs.Sets.{setBits, has, memberCount}
 use Rattle.contour.specs.Sets.{FirstSet}
 use Rattle.contour.proofs.FirstSets.{set-count}
 use Rattle.held.specs.Questions.{heldQuestions, Accepted}
-use Rattle.planner.specs.Items.{itemsOf, byteOf, bytesOf, floatsOf}
+use Rattle.item.specs.Items.{byteOf, bytesOf, floatsOf}
+use Rattle.planner.specs.Items.{itemsOf}
 use Rattle.planner.specs.Plan.{outcome, roomAnswer, answered, planOf, Promised}
-use Rattle.planner.specs.Writing.{Buffers, buffersOf, atStart, writeItem, keptEntry, Room, listOrder, listedItems, acceptedOf}
+use Rattle.item.specs.Writing.{Buffers, buffersOf, atStart, writeItem, Room}
+use Rattle.planner.specs.Writing.{keptEntry, listOrder, listedItems, acceptedOf}
 use Rattle.planner.specs.declared.planning.Planned.{Planned}
 use Rattle.planner.specs.declared.planning.Planned.the-variants.{Done, Refused}
-use Rattle.planner.proofs.Writing.{fold-start}
+use Rattle.item.proofs.Writing.{fold-start}
 use Rattle.planner.proofs.Listing.{order-any}
 use Rattle.planner.proofs.Orders.{bytes-all, floats-all}
 

@@ -14,11 +14,12 @@ use Rattle.contour.proofs.Sticks.{laws}
 use Rattle.table.specs.Vertices.{keptAt}
 use Rattle.table.specs.Lent.{LentAt}
 use Rattle.drawn.specs.Drawn.{vertex, drawnAmong}
-use Rattle.planner.specs.Items.{pointAt, itemTo, itemsTo, contourItems}
-use Rattle.planner.specs.Writing.{Buffers, writeItem, Room}
-use Rattle.planner.specs.declared.item.Item.{Item}
-use Rattle.planner.specs.declared.item.Item.the-variants.{Close}
-use Rattle.planner.proofs.Writing.{room-first, room-next}
+use Rattle.item.specs.Items.{pointAt, itemTo}
+use Rattle.planner.specs.Items.{itemsTo, contourItems}
+use Rattle.item.specs.Writing.{Buffers, writeItem, Room}
+use Rattle.item.specs.declared.item.Item.{Item}
+use Rattle.item.specs.declared.item.Item.the-variants.{Close}
+use Rattle.item.proofs.Writing.{room-first, room-next}
 
 -- the items for the kept vertices of a list of sticks, by whether the move is still due
 abbrev pub itemsAmong : Layer → List ℕ → Bool → List Edge → List Item

@@ -15,7 +15,8 @@ use Rattle.grid.specs.declared.question.Answer.{Answer}
 use Rattle.contour.specs.Walk.{occurrences}
 use Rattle.contour.specs.Contours.{walkOf, firstSticks}
 use Rattle.held.specs.Questions.{heldQuestions}
-use Rattle.planner.specs.Items.{itemsOf, bytesOf, floatsOf}
+use Rattle.item.specs.Items.{bytesOf, floatsOf}
+use Rattle.planner.specs.Items.{itemsOf}
 use Rattle.planner.specs.declared.planning.Planned.{Planned}
 use Rattle.planner.specs.declared.planning.Planned.the-variants.{Done, Refused}
 

@@ -1,5 +1,4 @@
 // The planner's list: the call, and the items that it writes.
-mod item;
 mod planning;
 mod walk;
 

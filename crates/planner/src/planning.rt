@@ -1,5 +1,5 @@
 // The public call: questions 1 to 7 and 14, and the items of all contours.
-use super::item::Written;
+use item::Written;
 use super::walk::write_contour;
 use bitset::EdgeSet;
 use bitset::WORDS;
@@ -21,7 +21,8 @@ ghost use Rattle.contour.specs.Sets.{FirstSet};
 ghost use Rattle.table.specs.Lent.{Lent};
 ghost use Rattle.held.specs.Questions.{Accepted};
 ghost use Rattle.planner.specs.Plan.{outcome, Promised};
-ghost use Rattle.planner.specs.Writing.{keptEntry, buffersOf, atStart, writeItem, Room, listedItems, acceptedOf};
+ghost use Rattle.item.specs.Writing.{buffersOf, atStart, writeItem, Room};
+ghost use Rattle.planner.specs.Writing.{keptEntry, listedItems, acceptedOf};
 
 // The call's answer: how many items and floats were written, or refused with the question and its place.
 pub enum Planned {

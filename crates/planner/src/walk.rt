@@ -1,9 +1,9 @@
 // The items of one contour.
-use super::item::Item;
-use super::item::Written;
-use super::item::item_to;
-use super::item::point_of;
-use super::item::put_item;
+use item::Item;
+use item::Written;
+use item::item_to;
+use item::point_of;
+use item::put_item;
 use contour::same_edge;
 use grid::Edge;
 use grid::Size;
@@ -20,8 +20,9 @@ ghost use Rattle.chord.specs.Points.{position};
 ghost use Rattle.table.specs.Entries.{entryOf};
 ghost use Rattle.table.specs.Vertices.{offsetIn};
 ghost use Rattle.table.specs.Lent.{LentAt, HasEntry};
-ghost use Rattle.planner.specs.Items.{pointAt, itemTo, contourItems};
-ghost use Rattle.planner.specs.Writing.{buffersOf, writeItem, Room};
+ghost use Rattle.item.specs.Items.{pointAt, itemTo};
+ghost use Rattle.planner.specs.Items.{contourItems};
+ghost use Rattle.item.specs.Writing.{buffersOf, writeItem, Room};
 
 // The item that leads to the vertex of a stick.
 fn item_at(size: Size, table: &[u16], e: Edge, due: bool) -> Item

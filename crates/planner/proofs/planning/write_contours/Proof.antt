@@ -4,8 +4,9 @@ use lib.ListN.{length}
 use Rattle.grid.specs.Layer.{layerOf}
 use Rattle.contour.specs.Cursors.{left}
 use Rattle.contour.proofs.Cursors.{here-stick, fewer}
-use Rattle.planner.specs.Writing.{buffersOf, atStart, listedItems}
-use Rattle.planner.proofs.Writing.{AsLong, fold-long}
+use Rattle.item.specs.Writing.{buffersOf, atStart}
+use Rattle.planner.specs.Writing.{listedItems}
+use Rattle.item.proofs.Writing.{AsLong, fold-long}
 use Rattle.planner.proofs.Listing.{PartListed, list-start, list-room, list-turn, list-end}
 use Rattle.planner.proofs.planning.write_contours.Statement.{statement}
 use Rattle.planner.proofs.planning.write_contours.Tie as tie

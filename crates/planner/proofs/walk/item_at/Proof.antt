@@ -5,7 +5,7 @@ use borrow.Author.Needs.{needs}
 use Rattle.chord.specs.Points.{position}
 use Rattle.table.specs.Vertices.{offsetIn}
 use Rattle.drawn.proofs.Runs.{in-grid-near}
-use Rattle.planner.specs.Items.{pointAt, itemTo}
+use Rattle.item.specs.Items.{pointAt, itemTo}
 use Rattle.planner.proofs.walk.item_at.Statement.{statement}
 use Rattle.planner.proofs.walk.item_at.Tie as tie
 

@@ -11,9 +11,10 @@ use Rattle.table.specs.Vertices.{isKept, offsetAt, keptAt}
 use Rattle.table.specs.Lent.{LentAt}
 use Rattle.table.proofs.Lent.{has-entry}
 use Rattle.drawn.specs.Drawn.{vertex}
-use Rattle.planner.specs.Items.{pointAt, itemTo, contourItems}
-use Rattle.planner.specs.Writing.{buffersOf}
-use Rattle.planner.proofs.Writing.{AsLong, fold-long}
+use Rattle.item.specs.Items.{pointAt, itemTo}
+use Rattle.planner.specs.Items.{contourItems}
+use Rattle.item.specs.Writing.{buffersOf}
+use Rattle.item.proofs.Writing.{AsLong, fold-long}
 use Rattle.planner.proofs.Walking.{StickWritten, written-kept, written-none, PartWritten, ToClose, writes-start, writes-here, writes-room, writes-less, writes-turn, writes-last}
 use Rattle.planner.proofs.walk.write_contour.Statement.{statement}
 use Rattle.planner.proofs.walk.write_contour.Tie as tie

@@ -8,10 +8,10 @@ use native.Mathlib.Omega.{arith}
 use lib.Ieee.{Float}
 use lib.ListN.{length, length-append, set, length-set}
 use lib.Seq.{sets, length-sets}
-use Rattle.planner.specs.Items.{byteOf, floatsIn, bytesOf, floatsOf}
-use Rattle.planner.specs.Writing.{Buffers, buffersOf, atStart, writeItem, Room}
-use Rattle.planner.specs.declared.item.Item.{Item}
-use Rattle.planner.specs.declared.item.Written.{Written}
+use Rattle.item.specs.Items.{byteOf, floatsIn, bytesOf, floatsOf}
+use Rattle.item.specs.Writing.{Buffers, buffersOf, atStart, writeItem, Room}
+use Rattle.item.specs.declared.item.Item.{Item}
+use Rattle.item.specs.declared.item.Written.{Written}
 
 pub room-floats : (b : Buffers) (item : Item) → Room b (item ∷ []) → b .at .floats + length (floatsIn item) ≤ length (b .points)
 unfolding flatten

@@ -1,9 +1,9 @@
 -- `item_to` meets its contract.
 use mathlib.Core.Path.{sym, ap}
 use mathlib.Core.Bool.{Bool}
-use Rattle.planner.specs.Items.{itemTo}
-use Rattle.planner.proofs.item.item_to.Statement.{statement}
-use Rattle.planner.proofs.item.item_to.Tie as tie
+use Rattle.item.specs.Items.{itemTo}
+use Rattle.item.proofs.item.item_to.Statement.{statement}
+use Rattle.item.proofs.item.item_to.Tie as tie
 
 returns : tie.Need-returns
 returns c = ap (λ (b : Bool). itemTo b (c .before .args .p)) (sym (c .if1 .taken))

@@ -3,12 +3,12 @@ use mathlib.Core.Path.{refl, ap}
 use native.Mathlib.Omega.{arith}
 use borrow.Author.Needs.{needs}
 use lib.ListN.{length}
-use Rattle.planner.specs.Items.{floatsIn}
-use Rattle.planner.specs.Writing.{buffersOf}
-use Rattle.planner.specs.declared.item.Item.{Item}
-use Rattle.planner.proofs.Writing.{room-floats, written}
-use Rattle.planner.proofs.item.put_item.Statement.{statement}
-use Rattle.planner.proofs.item.put_item.Tie as tie
+use Rattle.item.specs.Items.{floatsIn}
+use Rattle.item.specs.Writing.{buffersOf}
+use Rattle.item.specs.declared.item.Item.{Item}
+use Rattle.item.proofs.Writing.{room-floats, written}
+use Rattle.item.proofs.item.put_item.Statement.{statement}
+use Rattle.item.proofs.item.put_item.Tie as tie
 
 put-point-requires : tie.Need-put-point-requires
 put-point-requires c κs =

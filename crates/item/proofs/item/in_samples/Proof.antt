@@ -2,10 +2,10 @@
 use mathlib.Core.Path.{ap}
 use lib.IntN.{pos}
 use lib.Ieee.{Float, binary64, ofInt, div}
-use Rattle.planner.specs.Items.{inSamples}
-use Rattle.planner.proofs.Exact.{in-float, unit-bits}
-use Rattle.planner.proofs.item.in_samples.Statement.{statement}
-use Rattle.planner.proofs.item.in_samples.Tie as tie
+use Rattle.item.specs.Items.{inSamples}
+use Rattle.item.proofs.Exact.{in-float, unit-bits}
+use Rattle.item.proofs.item.in_samples.Statement.{statement}
+use Rattle.item.proofs.item.in_samples.Tie as tie
 
 int-to-float-result : tie.Need-int-to-float-result
 int-to-float-result c = in-float (c .before .args .n) (c .before .pre)

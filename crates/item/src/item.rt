@@ -7,8 +7,8 @@ ghost use lib.ListN.{length};
 ghost use lib.Seq.{sets};
 ghost use Rattle.chord.specs.Points.{position};
 ghost use Rattle.chord.specs.Runs.{NearEdge};
-ghost use Rattle.planner.specs.Items.{inSamples, pointAt, itemTo};
-ghost use Rattle.planner.specs.Writing.{buffersOf, writeItem, Room};
+ghost use Rattle.item.specs.Items.{inSamples, pointAt, itemTo};
+ghost use Rattle.item.specs.Writing.{buffersOf, writeItem, Room};
 
 // Where a vertex is, in samples.
 pub struct Point {

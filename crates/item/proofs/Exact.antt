@@ -10,7 +10,7 @@ use lib.Pow.{shl-lt, pow-mono}
 use lib.Ieee.{Float, nan, inf, fin, binary64, ofInt, div, round, fits, inFloat, up, down, ofBits}
 use lib.Ieee.Exact.{HasValue, round-exact}
 use lib.Ieee.Fits.{div-fits, down-pos}
-use Rattle.planner.specs.Items.{inSamples}
+use Rattle.item.specs.Items.{inSamples}
 
 -- the cast loses nothing
 pub in-float : (n : ℕ) → n ≤ 262144 → T (inFloat binary64 (pos n))

@@ -1,9 +1,9 @@
 -- `point_of` meets its contract.
 use mathlib.Core.Path.{ap, _∙_}
 use borrow.Author.Needs.{needs}
-use Rattle.planner.specs.Items.{pointAt}
-use Rattle.planner.proofs.item.point_of.Statement.{statement}
-use Rattle.planner.proofs.item.point_of.Tie as tie
+use Rattle.item.specs.Items.{pointAt}
+use Rattle.item.proofs.item.point_of.Statement.{statement}
+use Rattle.item.proofs.item.point_of.Tie as tie
 
 returns : tie.Need-returns
 returns c =

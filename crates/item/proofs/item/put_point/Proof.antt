@@ -5,8 +5,8 @@ use native.Mathlib.Numerals.{add-one}
 use native.Mathlib.Omega.{arith}
 use borrow.Author.Needs.{needs}
 use lib.ListN.{set, length-set}
-use Rattle.planner.proofs.item.put_point.Statement.{statement}
-use Rattle.planner.proofs.item.put_point.Tie as tie
+use Rattle.item.proofs.item.put_point.Statement.{statement}
+use Rattle.item.proofs.item.put_point.Tie as tie
 
 slice-write-points-2 : tie.Need-slice-write-points-2
 slice-write-points-2 c = omega (arith, c .pre, length-set (c .args .points .now) (c .args .at) (c .args .x))

@@ -1,0 +1,3 @@
+-- What the crate's contracts cite: items, and how they are written out.
+pub mod Items
+pub mod Writing
