@@ -4,6 +4,7 @@ use mathlib.Core.Path.{_≡_, sym, ap, _∙_}
 use mathlib.Core.Bool.{true, false}
 use mathlib.Core.List.{List, [], _∷_, foldl}
 use Prim.Native.Nat.{ℕ, _+_, _-_, _≤_, _<_}
+use native.Mathlib.Nat.{zero-add}
 use native.Mathlib.Omega.{arith}
 use borrow.Author.Tests.{ltb-true, ltb-false}
 use lib.Dec.{ltb}
@@ -11,9 +12,9 @@ use lib.ListN.{length}
 use Rattle.arith.specs.Finite.{Least}
 use Rattle.arith.proofs.Finite.{least-from}
 use Rattle.grid.specs.Layer.{Layer}
-use Rattle.grid.specs.Edges.{number, edgeAt, edgeCount, kindStart, isStick}
+use Rattle.grid.specs.Edges.{number, edgeIn, edgeAt, edgeCount, kindStart, isStick}
 use Rattle.grid.specs.declared.edge.Edge.{Edge}
-use Rattle.grid.proofs.Numbers.{kind-below}
+use Rattle.grid.proofs.Numbers.{kind-below, edgeAt-kind}
 use Rattle.contour.specs.Walk.{first, firstsAmong, firstsFrom}
 use Rattle.contour.specs.Contours.{walkOf}
 use Rattle.bitset.specs.Sets.{has, nextIn}
@@ -55,7 +56,7 @@ module _ {L : Layer} {c : Cursor} (at : Placed L c) where
 
   -- it is at a first stick, while there are more
   pub here-first : c .more ≡ true → first (walkOf L) (c .stick) ≡ true
-  here-first more = rw (at .stick) (at .is-first (below more))
+  here-first more = rw (at .stick (below more)) (at .is-first (below more))
 
 module _ {L : Layer} {s : List ℕ} (set : FirstSet L s) {c : Cursor} (at : Placed L c) where
   pub here-stick : c .more ≡ true → isStick L (c .stick) ≡ true
@@ -67,13 +68,14 @@ module _ {L : Layer} {s : List ℕ} (set : FirstSet L s) {c : Cursor} (at : Plac
   -- the number that the cursor has is that of its stick
   pub here-number : c .more ≡ true → number (L .size) (c .stick) ≡ c .number
   here-number more =
-      rw (at .stick) (laws L (set .sound) .number-at (c .number) (edge-below more) (rw (at .stick) at (here-stick more)))
+      let stick = at .stick (below at more) in
+      rw stick (laws L (set .sound) .number-at (c .number) (edge-below more) (rw stick at (here-stick more)))
 
   -- its stick is the first of those that are left; at the end none is
   pub here-left : c .more ≡ true → left L c ≡ c .stick ∷ firstsFrom (walkOf L) (c .number + 1)
   here-left more =
       from-first (walkOf L) (c .number) (edge-below more) (at .is-first (below at more))
-      ∙ ap (λ (e : Edge). e ∷ firstsFrom (walkOf L) (c .number + 1)) (sym (at .stick))
+      ∙ ap (λ (e : Edge). e ∷ firstsFrom (walkOf L) (c .number + 1)) (sym (at .stick (below at more)))
 
   pub none-left : c .more ≡ false → left L c ≡ []
   none-left over =
@@ -87,7 +89,7 @@ module _ {L : Layer} {s : List ℕ} (set : FirstSet L s) {c : Cursor} (at : Plac
 module _ {L : Layer} {s : List ℕ} (set : FirstSet L s) where
   pub reached : (p : ℕ) (c : Cursor) → p ≤ kindStart (L .size) true
       → c .number ≡ nextIn s p (kindStart (L .size) true)
-      → c .stick ≡ edgeAt (L .size) (c .number)
+      → c .stick ≡ edgeIn (L .size) false (c .number)
       → c .more ≡ ltb (c .number) (kindStart (L .size) true)
       → Reached L p c
   reached p c h e stick any =
@@ -97,7 +99,7 @@ module _ {L : Layer} {s : List ℕ} (set : FirstSet L s) where
         placed = record {
           within = omega (arith, least .to);
           any = any;
-          stick = stick;
+          stick = λ l. stick ∙ sym (rw zero-add at (edgeAt-kind (L .size) (set .sound .whole .sized) false (c .number) l));
           is-first = λ l. sym (set .says (c .number)) ∙ least .here (omega arith);
         };
         left = skipped L p (c .number) (least .from) (λ j a b. sym (set .says j) ∙ least .before j a b);

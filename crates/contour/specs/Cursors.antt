@@ -19,7 +19,7 @@ left L c = firstsFrom (walkOf L) (c .number)
 pub record Placed (L : Layer) (c : Cursor) : Type 0 where
   pub within : c .number ≤ kindStart (L .size) true
   pub any : c .more ≡ ltb (c .number) (kindStart (L .size) true)
-  pub stick : c .stick ≡ edgeAt (L .size) (c .number)
+  pub stick : c .number < kindStart (L .size) true → c .stick ≡ edgeAt (L .size) (c .number)
   pub is-first : c .number < kindStart (L .size) true → first (walkOf L) (edgeAt (L .size) (c .number)) ≡ true
 
 -- it is the first such place from number p on

@@ -4,7 +4,7 @@ use bitset::EdgeSet;
 use bitset::next_first;
 use grid::Edge;
 use grid::Size;
-use grid::edge_at;
+use grid::edge_in;
 use grid::kind_start;
 ghost use mathlib.Core.Path.{_≡_};
 ghost use mathlib.Core.Bool.{true};
@@ -29,7 +29,7 @@ fn cursor_from(size: Size, bitmap: &[u8], set: &EdgeSet, from: usize) -> Cursor
 {
     let end = kind_start(size, true);
     let number = next_first(set, from, end);
-    let stick = edge_at(size, number);
+    let stick = edge_in(size, false, number);
     Cursor {
         stick,
         number,

@@ -70,7 +70,7 @@ pub fn number_of(size: Size, e: Edge) -> usize
 }
 
 // Edge k of a kind, counted row by row.
-fn edge_in(size: Size, vertical: bool, k: usize) -> Edge
+pub fn edge_in(size: Size, vertical: bool, k: usize) -> Edge
     requires { ⌜ Sized size ⌝ }
     ensures { λ r. ⌜ r ≡ edgeIn size vertical k ⌝ }
 {

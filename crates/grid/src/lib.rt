@@ -7,6 +7,7 @@ pub use edge::Edge;
 pub use edge::edge_at;
 pub use edge::edge_columns;
 pub use edge::edge_count;
+pub use edge::edge_in;
 pub use edge::edge_rows;
 pub use edge::kind_start;
 pub use edge::number_of;

@@ -23,7 +23,7 @@ returns c =
     let end = at-end .kind-start .ensures in
     reached (start .pre .0) (a .from) _ (start .pre .1)
     (found .next-first .ensures ∙ ap (nextIn (a .set .now) (a .from)) end)
-    (c .edge-at .ensures)
+    (c .edge-in .ensures)
     (ap (ltb (found .next-first .result)) end)
 
 pub cursor-from-spec : {M : Type 1} → statement M
