@@ -1,5 +1,4 @@
 // The public call: questions 1 to 7 and 14, and the items of all contours.
-use item::Written;
 use super::walk::write_contour;
 use bitset::EdgeSet;
 use bitset::WORDS;
@@ -10,6 +9,7 @@ use grid::Answer;
 use grid::Refusal;
 use grid::Size;
 use grid::kind_start;
+use item::Written;
 use table::entry_of;
 use table::is_kept;
 ghost use mathlib.Core.Path.{_≡_};

@@ -1,12 +1,12 @@
 // The items of one contour.
+use contour::same_edge;
+use grid::Edge;
+use grid::Size;
 use item::Item;
 use item::Written;
 use item::item_to;
 use item::point_of;
 use item::put_item;
-use contour::same_edge;
-use grid::Edge;
-use grid::Size;
 use step::next_stick;
 use table::entry_at;
 use table::is_kept;

@@ -24,7 +24,7 @@ pub record Result (B : Type 0) : Type 0 where
 
 -- the place and three figures; elements past the fourth stay
 abbrev pub fourFigures : Report → List ℕ → List ℕ
-fourFigures r figures = set (set (set (set figures 0 (r .place)) 1 (r .one)) 2 (r .two)) 3 (r .three)
+fourFigures r figures = set (set (set (set figures 0 (r .place)) 1 (r .first)) 2 (r .second)) 3 (r .third)
 
 -- A report is stored in figures of which there are four at least: n is returned, and `left` are the figures then.
 pub record ReportStored (r : Report) (figures : List ℕ) (n : ℕ) (left : List ℕ) : Type 0 where
@@ -35,13 +35,13 @@ pub record ReportStored (r : Report) (figures : List ℕ) (n : ℕ) (left : List
 -- Trace: place
 abbrev pub traceResult : Trace.Outcome → Result (List ℕ)
 traceResult o =
-    record { report = record { number = o .refusal; place = o .place; one = 0; two = 0; three = 0 }; buffers = o .table }
+    record { report = record { number = o .refusal; place = o .place; first = 0; second = 0; third = 0 }; buffers = o .table }
 
 -- Counts: place, inside, sticks, contours. It writes to nothing but the figures.
 abbrev pub countsResult : Counts.Figures → Result (Unit {0})
 countsResult o =
     record {
-      report = record { number = o .refusal; place = o .place; one = o .inside; two = o .sticks; three = o .contours };
+      report = record { number = o .refusal; place = o .place; first = o .inside; second = o .sticks; third = o .contours };
       buffers = tt;
     }
 
@@ -49,29 +49,29 @@ countsResult o =
 abbrev pub smoothResult : Smooth.Outcome → Result (List ℕ)
 smoothResult o =
     record {
-      report = record { number = o .refusal; place = o .place; one = o .passes; two = o .total; three = cond (o .settled) 1 0 };
+      report = record { number = o .refusal; place = o .place; first = o .passes; second = o .total; third = cond (o .settled) 1 0 };
       buffers = o .table;
     }
 
 -- Simplify: place, removed, tried
 abbrev pub simplifyResult : Simplify.Outcome → Result (List ℕ)
 simplifyResult o =
-    record { report = record { number = o .refusal; place = o .place; one = o .removed; two = o .tried; three = 0 }; buffers = o .table }
+    record { report = record { number = o .refusal; place = o .place; first = o .removed; second = o .tried; third = 0 }; buffers = o .table }
 
 -- Roll: place, done
 abbrev pub rollResult : Roll.Outcome → Result (List ℕ)
 rollResult o =
-    record { report = record { number = o .refusal; place = o .place; one = o .done; two = 0; three = 0 }; buffers = o .table }
+    record { report = record { number = o .refusal; place = o .place; first = o .done; second = 0; third = 0 }; buffers = o .table }
 
 -- Writing a sheet: place, length
 abbrev pub writeResult : Write.Outcome → Result (List ℕ)
 writeResult o =
-    record { report = record { number = o .refusal; place = o .place; one = o .written; two = 0; three = 0 }; buffers = o .output }
+    record { report = record { number = o .refusal; place = o .place; first = o .written; second = 0; third = 0 }; buffers = o .output }
 
 -- Reading a sheet: place
 abbrev pub readResult : Read.Outcome → Result (List ℕ)
 readResult o =
-    record { report = record { number = o .refusal; place = o .place; one = 0; two = 0; three = 0 }; buffers = o .table }
+    record { report = record { number = o .refusal; place = o .place; first = 0; second = 0; third = 0 }; buffers = o .table }
 
 -- The planner's list: place, items, floats written; and its two outputs
 pub record Outputs : Type 0 where
@@ -81,11 +81,11 @@ pub record Outputs : Type 0 where
 abbrev pub planResult : Plan.Outcome → Result Outputs
 planResult o =
     record {
-      report = record { number = o .refusal; place = o .place; one = o .items; two = o .floats; three = 0 };
+      report = record { number = o .refusal; place = o .place; first = o .items; second = o .floats; third = 0 };
       buffers = record { items = o .itemBuffer; points = o .pointBuffer };
     }
 
 -- One sample of a layer view: place, sample
 abbrev pub sampleResult : Sampled → Result (Unit {0})
 sampleResult s =
-    record { report = record { number = s .number; place = s .place; one = cond (s .inside) 1 0; two = 0; three = 0 }; buffers = tt }
+    record { report = record { number = s .number; place = s .place; first = cond (s .inside) 1 0; second = 0; third = 0 }; buffers = tt }

@@ -82,9 +82,9 @@ pub fn rolled_report(answer: Rolled) -> Report
         } => Report {
             number: grid::refusal_number(question),
             place,
-            one: done,
-            two: 0,
-            three: 0,
+            first: done,
+            second: 0,
+            third: 0,
         },
     }
 }
@@ -122,8 +122,8 @@ pub fn sampled_report(sampled: Sampled) -> Report
     Report {
         number: sampled.number,
         place: sampled.place,
-        one: one_if(sampled.inside),
-        two: 0,
-        three: 0,
+        first: one_if(sampled.inside),
+        second: 0,
+        third: 0,
     }
 }

@@ -10,9 +10,9 @@ ghost use Rattle.report.specs.Results.{ReportStored};
 pub struct Report {
     pub number: u32,
     pub place: usize,
-    pub one: usize,
-    pub two: usize,
-    pub three: usize,
+    pub first: usize,
+    pub second: usize,
+    pub third: usize,
 }
 
 // Stores the place and the figures, and returns the number.
@@ -21,35 +21,35 @@ pub fn put_report(figures: &mut [u64], report: Report) -> u32
     ensures { λ r. ⌜ ReportStored report (now (figures .entry)) r (now (figures .exit)) ⌝ }
 {
     figures[0] = report.place as u64;
-    figures[1] = report.one as u64;
-    figures[2] = report.two as u64;
-    figures[3] = report.three as u64;
+    figures[1] = report.first as u64;
+    figures[2] = report.second as u64;
+    figures[3] = report.third as u64;
     report.number
 }
 
 // A refused call reports the question's number and its place. All its other figures are 0.
 pub fn refused_report(q: Refusal, place: usize) -> Report
-    ensures { λ r. ⌜ r ≡ record { number = numberOf q; place = place; one = 0; two = 0; three = 0 } ⌝ }
+    ensures { λ r. ⌜ r ≡ record { number = numberOf q; place = place; first = 0; second = 0; third = 0 } ⌝ }
 {
     Report {
         number: grid::refusal_number(q),
         place,
-        one: 0,
-        two: 0,
-        three: 0,
+        first: 0,
+        second: 0,
+        third: 0,
     }
 }
 
 // A call that is done reports its figures.
-pub fn done_report(one: usize, two: usize, three: usize) -> Report
-    ensures { λ r. ⌜ r ≡ record { number = 0; place = 0; one = one; two = two; three = three } ⌝ }
+pub fn done_report(first: usize, second: usize, third: usize) -> Report
+    ensures { λ r. ⌜ r ≡ record { number = 0; place = 0; first = first; second = second; third = third } ⌝ }
 {
     Report {
         number: 0,
         place: 0,
-        one,
-        two,
-        three,
+        first,
+        second,
+        third,
     }
 }
 

@@ -1,13 +1,14 @@
 // The calls of the library that a script makes: T is Trace, N is Counts, H is questions 1 to 7, S is Smooth, Y is Simplify; W,
 // D, R and L stand in text.rt. A call says whether the script is right there.
-use super::answer;
 use super::digest::digest_of;
 use super::line;
 use super::script;
 use super::state;
 use super::state::State;
 use super::text::text_call;
+use grid::Answer;
 use grid::Size;
+use report::Report;
 
 // Makes a call on the bytes and entries in use.
 pub fn answer_call(bitmap: &[u8], table: &mut [u16], state: State) -> bool {
@@ -37,11 +38,13 @@ fn make(bitmap: &[u8], table: &mut [u16], state: State) -> bool {
 }
 
 fn trace_call(bitmap: &[u8], table: &mut [u16], state: State) -> bool {
-    answer::traced(trace::trace(state.w, state.h, bitmap, table))
+    let traced = trace::trace(state.w, state.h, bitmap, table);
+    line::begin(state.letter, report::traced_report(traced))
 }
 
 fn counts_call(bitmap: &[u8], table: &[u16], state: State) -> bool {
-    answer::counted(trace::counts(state.w, state.h, bitmap, table))
+    let counted = trace::counts(state.w, state.h, bitmap, table);
+    line::begin(state.letter, report::counted_report(counted))
 }
 
 fn size_of(state: State) -> Size {
@@ -51,16 +54,27 @@ fn size_of(state: State) -> Size {
     }
 }
 
+// Questions put to a layer have no figures.
+fn report_of(answer: Answer) -> Report {
+    match answer {
+        Answer::Yes => report::done_report(0, 0, 0),
+        Answer::No(q, place) => report::refused_report(q, place),
+    }
+}
+
 fn held_call(bitmap: &[u8], table: &[u16], state: State) -> bool {
-    answer::held(held::ask_layer_held(size_of(state), bitmap, table))
+    let answer = held::ask_layer_held(size_of(state), bitmap, table);
+    line::begin(state.letter, report_of(answer))
 }
 
 fn smooth_call(bitmap: &[u8], table: &mut [u16], state: State) -> bool {
     let limit = script::low(state.first);
-    answer::smoothed(smooth::smooth(state.w, state.h, bitmap, table, limit))
+    let smoothed = smooth::smooth(state.w, state.h, bitmap, table, limit);
+    line::begin(state.letter, report::smoothed_report(smoothed))
 }
 
 fn simplify_call(bitmap: &[u8], table: &mut [u16], state: State) -> bool {
     let t = script::lowest(state.first);
-    answer::simplified(simplify::simplify(state.w, state.h, bitmap, table, t))
+    let simplified = simplify::simplify(state.w, state.h, bitmap, table, t);
+    line::begin(state.letter, report::simplified_report(simplified))
 }

@@ -1,9 +1,9 @@
 // The line that answers a call: a letter, the number and the place of the refusal, or 0 and 0 if the call was done, its
-// figures, and the digest of the table.
-use grid::Refusal;
+// figures, the digests of its outputs, and the digest of the table.
 use libc::STDOUT_FILENO;
+use report::Report;
 
-fn put(n: usize) {
+pub fn put(n: usize) {
     io::write_all(STDOUT_FILENO, b" ");
     io::print_decimal(STDOUT_FILENO, n as u64);
 }
@@ -12,55 +12,30 @@ fn put(n: usize) {
 fn figures(letter: u8) -> usize {
     match letter {
         b'R' => 1,
-        b'W' => 2,
+        b'W' => 1,
         b'Y' => 2,
+        b'L' => 2,
         b'N' => 3,
         b'S' => 3,
-        b'L' => 4,
         _ => 0,
     }
 }
 
-// The first `count` of four figures.
-fn put_figures(count: usize, a: usize, b: usize, c: usize, d: usize) {
+// The line up to the figures. It says true: the script is right there.
+pub fn begin(letter: u8, report: Report) -> bool {
+    io::write_all(STDOUT_FILENO, &[letter]);
+    put(report.number as usize);
+    put(report.place);
+    let count = figures(letter);
     if count > 0 {
-        put(a);
+        put(report.first);
     }
     if count > 1 {
-        put(b);
+        put(report.second);
     }
     if count > 2 {
-        put(c);
+        put(report.third);
     }
-    if count > 3 {
-        put(d);
-    }
-}
-
-fn begin(letter: u8, number: usize, place: usize) {
-    io::write_all(STDOUT_FILENO, &[letter]);
-    put(number);
-    put(place);
-}
-
-// A call that was done, with its figures. This and the next say true: the script is right there.
-pub fn done(letter: u8, a: usize, b: usize, c: usize, d: usize) -> bool {
-    begin(letter, 0, 0);
-    put_figures(figures(letter), a, b, c, d);
-    true
-}
-
-pub fn refused(
-    letter: u8,
-    question: Refusal,
-    place: usize,
-    a: usize,
-    b: usize,
-    c: usize,
-    d: usize,
-) -> bool {
-    begin(letter, grid::refusal_number(question) as usize, place);
-    put_figures(figures(letter), a, b, c, d);
     true
 }
 

@@ -1,6 +1,5 @@
 // A program that reads a script of commands from standard input, carries them out, and prints a line for each call of the
 // library, so that its answers can be compared with those of another program. A script that is wrong ends with a line '?'.
-mod answer;
 mod call;
 mod command;
 mod digest;

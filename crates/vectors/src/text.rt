@@ -1,8 +1,8 @@
 // The calls that take or write bytes beside bitmap and table: D reads a sheet, R runs a roll, W writes a sheet, L the planner's
 // list. An output has a pattern before the call, and the digest of the whole output is among the figures, also of a refused call.
-use super::answer;
 use super::digest::digest_bytes;
 use super::digest::digest_floats;
+use super::line;
 use super::script;
 use super::state::State;
 
@@ -46,16 +46,20 @@ fn make(bitmap: &[u8], table: &mut [u16], text: &mut [u8], state: State) -> bool
 
 fn write_call(bitmap: &[u8], table: &[u16], output: &mut [u8], state: State) -> bool {
     let written = sheet::write_sheet(state.w, state.h, bitmap, table, output);
-    answer::written(written, digest_bytes(output))
+    let right = line::begin(state.letter, report::written_report(written));
+    line::put(digest_bytes(output));
+    right
 }
 
 fn read_call(bitmap: &[u8], table: &mut [u16], sheet: &[u8], state: State) -> bool {
-    answer::read(reading::read_sheet(state.w, state.h, bitmap, table, sheet))
+    let read = reading::read_sheet(state.w, state.h, bitmap, table, sheet);
+    line::begin(state.letter, report::read_report(read))
 }
 
 fn roll_call(bitmap: &[u8], table: &mut [u16], commands: &[u8], state: State) -> bool {
     let t = script::lowest(state.first);
-    answer::rolled(roll::roll(state.w, state.h, bitmap, table, commands, t))
+    let rolled = roll::roll(state.w, state.h, bitmap, table, commands, t);
+    line::begin(state.letter, report::rolled_report(rolled))
 }
 
 // What an output of floats has before the call.
@@ -84,5 +88,8 @@ fn plan_in(
 
 fn plan(bitmap: &[u8], table: &[u16], items: &mut [u8], points: &mut [f64], state: State) -> bool {
     let planned = planner::plan(state.w, state.h, bitmap, table, items, points);
-    answer::planned(planned, digest_bytes(items), digest_floats(points))
+    let right = line::begin(state.letter, report::planned_report(planned));
+    line::put(digest_bytes(items));
+    line::put(digest_floats(points));
+    right
 }
