@@ -18,7 +18,7 @@ use Rattle.step.proofs.Links.{sameSide}
 use Rattle.step.proofs.Walks.{isUpper, edgeOf-beside, there-other}
 use Rattle.chord.specs.Points.{Position, position}
 use Rattle.chord.specs.Crossing.{along, across, base, line}
-use Rattle.smooth.specs.Offset.{Apart}
+use Rattle.offset.specs.Offset.{Apart}
 
 -- the position is strictly above the line of the edge, or strictly below it
 abbrev pub Past : Bool → Edge → Position → Type 0

@@ -23,12 +23,12 @@ use Rattle.table.proofs.Entries.{Inside}
 use Rattle.table.proofs.AllKept.{AllKept, offset-inside}
 use Rattle.table.proofs.Stores.{store-elsewhere, store-length, store-here, store-all-kept}
 use Rattle.drawn.specs.Drawn.{vertex}
-use Rattle.smooth.specs.Offset.{rounded, Around}
+use Rattle.offset.specs.Offset.{rounded, Around}
 use Rattle.smooth.specs.Smooth.{smoothedAt, Pass, visit}
-use Rattle.smooth.proofs.Rounding.{rounded-scaled}
-use Rattle.smooth.proofs.Meeting.{meeting-inside, meets, meets-at}
+use Rattle.offset.proofs.Rounding.{rounded-scaled}
+use Rattle.offset.proofs.Meeting.{meeting-inside, meets, meets-at}
 use Rattle.smooth.proofs.Neighbours.{Beside, next-beside, prev-beside, beside-apart}
-use Rattle.smooth.proofs.Offsets.{spread-some, new-is, new-inside}
+use Rattle.offset.proofs.Offsets.{spread-some, new-is, new-inside}
 
 -- what a step does
 module _ (L : Layer) (s : Pass) (e : Edge) where

@@ -31,7 +31,7 @@ use Rattle.table.proofs.Lent.{has-entry, place-within}
 use Rattle.table.proofs.AllKept.{AllKept, all-kept-of}
 use Rattle.drawn.specs.Drawn.{vertex}
 use Rattle.drawn.proofs.Runs.{in-grid-near}
-use Rattle.smooth.specs.Offset.{newOffset}
+use Rattle.offset.specs.Offset.{newOffset}
 use Rattle.smooth.specs.Smooth.{smoothedAt, Pass, passed, visit, passContour, Smoothable}
 use Rattle.smooth.specs.Visit.{offsetOf, Visitable, Visited}
 use Rattle.smooth.specs.declared.pass.Stepped.{Stepped}

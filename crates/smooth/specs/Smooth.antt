@@ -20,7 +20,7 @@ use Rattle.table.specs.Kept.{allKeptAnswer}
 use Rattle.table.specs.Vertices.{offsetAt}
 use Rattle.table.specs.Stores.{slid}
 use Rattle.drawn.specs.Drawn.{vertex}
-use Rattle.smooth.specs.Offset.{newOffset}
+use Rattle.offset.specs.Offset.{newOffset}
 
 -- the new offset of the vertex of a stick in a table whose vertices are all kept, from "its neighbours as they then are"
 abbrev pub smoothedAt : Layer → List ℕ → Edge → ℕ

@@ -11,7 +11,7 @@ use Rattle.chord.specs.Crossing.{distance}
 use Rattle.table.specs.Entries.{entryOf, encoded, suits}
 use Rattle.table.specs.Vertices.{offsetIn}
 use Rattle.table.specs.declared.entry.Entry.the-variants.{Kept}
-use Rattle.smooth.specs.Offset.{newOffset, Movable}
+use Rattle.offset.specs.Offset.{newOffset, Movable}
 use Rattle.smooth.specs.declared.pass.Stepped.{Stepped}
 
 -- the offset that entry k of a table gives

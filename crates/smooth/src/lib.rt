@@ -1,5 +1,4 @@
 // The public call Smooth: passes over all contours, each vertex slid by two fifths of the way to the segment between its neighbours.
-mod offset;
 mod pass;
 mod smoothing;
 

@@ -1,5 +1,4 @@
 // A pass: the step at one vertex, along one contour, and over all contours.
-use super::offset::new_offset;
 use bitset::EdgeSet;
 use chord::Position;
 use chord::position_of;
@@ -9,6 +8,7 @@ use drawn::vertex_at;
 use grid::Edge;
 use grid::Size;
 use grid::number_of;
+use offset::new_offset;
 use step::next_stick;
 use step::previous_stick;
 use table::Entry;

@@ -3,7 +3,7 @@ use mathlib.Core.Path.{ap, _∙_}
 use Prim.Native.Nat.{ℕ}
 use lib.ListN.{set}
 use Rattle.chord.specs.Crossing.{distance}
-use Rattle.smooth.specs.Offset.{newOffset}
+use Rattle.offset.specs.Offset.{newOffset}
 use borrow.Author.Needs.{needs}
 use Rattle.smooth.proofs.pass.visit.Statement.{statement}
 use Rattle.smooth.proofs.pass.visit.Tie as tie

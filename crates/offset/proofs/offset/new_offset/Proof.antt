@@ -6,11 +6,11 @@ use mir.Syntax.{w64}
 use mir.Val.{toZ, ofZ}
 use Rattle.arith.proofs.Integers.{arithℤ}
 use Rattle.arith.proofs.Bounds.{sized, exact, within}
-use Rattle.smooth.specs.Offset.{rounded, spread, upon, newOffset}
-use Rattle.smooth.proofs.Division.{above-exact, byte-fits}
-use Rattle.smooth.proofs.Offsets.{spread-some, new-is, new-inside}
-use Rattle.smooth.proofs.offset.new_offset.Statement.{statement}
-use Rattle.smooth.proofs.offset.new_offset.Tie as tie
+use Rattle.offset.specs.Offset.{rounded, spread, upon, newOffset}
+use Rattle.offset.proofs.Division.{above-exact, byte-fits}
+use Rattle.offset.proofs.Offsets.{spread-some, new-is, new-inside}
+use Rattle.offset.proofs.offset.new_offset.Statement.{statement}
+use Rattle.offset.proofs.offset.new_offset.Tie as tie
 
 -- the spread, as the machine has it
 spread-is : (c : tie.After-spread-of)

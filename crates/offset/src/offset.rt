@@ -11,7 +11,7 @@ ghost use Prim.Native.Nat.{_^_, _≤_};
 ghost use lib.IntN.{pos, natAbs};
 ghost use Rattle.arith.specs.Nearest.{floorDiv, nearest};
 ghost use Rattle.chord.specs.Runs.{Near, NearEdge};
-ghost use Rattle.smooth.specs.Offset.{rounded, Divisible, spread, shift, upon, newOffset, Movable};
+ghost use Rattle.offset.specs.Offset.{rounded, Divisible, spread, shift, upon, newOffset, Movable};
 
 // t / m for an m above 0, rounded down.
 fn floor_div(t: i64, m: i64) -> i64

@@ -15,7 +15,7 @@ use Rattle.chord.proofs.Homogeneous.{alongOf, along-is, coordinates, Plain, poi
 use Rattle.chord.proofs.Weights.{on→weights, weighted→on}
 use Rattle.chord.proofs.EdgePoints.{edge, on→closed, closed→on}
 use Rattle.chord.proofs.Meetings.{crossing, sides→parted, crossing-across, crossing-along, crossing-only, total-some}
-use Rattle.smooth.specs.Offset.{spread, shift, upon, Apart, Around}
+use Rattle.offset.specs.Offset.{spread, shift, upon, Apart, Around}
 
 -- Spread and shift as natural numbers: the neighbours' coordinates are u and w along, a and b across; the line lies at l, the stick
 -- begins at o, the old offset is k. With the neighbours β and α off the line, the size of the spread is α + β, and the shift over it is the

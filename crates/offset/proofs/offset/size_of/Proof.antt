@@ -5,9 +5,9 @@ use lib.Signed.{ltZ}
 use mir.Syntax.{w64}
 use mir.Val.{toZ, ofZ}
 use Rattle.arith.proofs.Bounds.{sized, in-range, exact}
-use Rattle.smooth.proofs.Division.{with-size, test-exact, size-below, size-above}
-use Rattle.smooth.proofs.offset.size_of.Statement.{statement}
-use Rattle.smooth.proofs.offset.size_of.Tie as tie
+use Rattle.offset.proofs.Division.{with-size, test-exact, size-below, size-above}
+use Rattle.offset.proofs.offset.size_of.Statement.{statement}
+use Rattle.offset.proofs.offset.size_of.Tie as tie
 
 returns : tie.Need-returns
 returns c =

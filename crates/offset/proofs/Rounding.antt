@@ -9,7 +9,7 @@ use lib.Signed.{_≤ℤ_, _<ℤ_}
 use Rattle.arith.proofs.Integers.{ints, at, viaℕ, toℕ, arithℤ, add-parts, natAbs-parts, *ℤ-mono, *ℤ-cancel-<, *ℤ-cancel-≤}
 use Rattle.arith.specs.Nearest.{Near}
 use Rattle.arith.proofs.Nearest.{nearest-is, nearest-only}
-use Rattle.smooth.specs.Offset.{rounded}
+use Rattle.offset.specs.Offset.{rounded}
 
 twice-size : (y : ℤ) (m : ℕ) → negℤ (pos m) ≤ℤ (pos 2 *ℤ y) → (pos 2 *ℤ y) ≤ℤ pos m → 2 * natAbs y ≤ m
 twice-size y m l u = omega (arith, natAbs-parts y, toℕ l (search (ints, at y)), toℕ u (search (ints, at y)))

@@ -13,7 +13,7 @@ use mir.Val.{Fits, ofZ}
 use Rattle.arith.proofs.Integers.{ints, at, viaℕ, arithℤ, leZ-false, ltZ-true}
 use Rattle.arith.specs.Nearest.{floorDiv, nearest}
 use Rattle.arith.proofs.Bounds.{Sized, ok, pure, exact, natAbs-neg}
-use Rattle.smooth.specs.Offset.{rounded, upon}
+use Rattle.offset.specs.Offset.{rounded, upon}
 
 -- a number above 0 is no zero divisor
 pub above-bits : (w : Width) (m : ℤ) → pos 0 <ℤ m → 0 < ofZ w m

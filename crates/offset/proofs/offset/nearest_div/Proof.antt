@@ -5,9 +5,9 @@ use lib.IntN.{pos, _*ℤ_}
 use mir.Syntax.{w64}
 use mir.Val.{toZ, ofZ}
 use Rattle.arith.proofs.Bounds.{sized, in-range, exact, within}
-use Rattle.smooth.proofs.Division.{above-exact, above-times, nearest-of}
-use Rattle.smooth.proofs.offset.nearest_div.Statement.{statement}
-use Rattle.smooth.proofs.offset.nearest_div.Tie as tie
+use Rattle.offset.proofs.Division.{above-exact, above-times, nearest-of}
+use Rattle.offset.proofs.offset.nearest_div.Statement.{statement}
+use Rattle.offset.proofs.offset.nearest_div.Tie as tie
 
 floor-div-requires : tie.Need-floor-div-requires
 floor-div-requires c κs =

@@ -5,8 +5,8 @@ use native.Mathlib.Omega.{arith}
 use borrow.Author.Needs.{needs}
 use lib.IntN.{pos, _+ℤ_, _-ℤ_, _*ℤ_}
 use Rattle.arith.proofs.Bounds.{sized, in-range, exact, within}
-use Rattle.smooth.proofs.offset.shift_of.Statement.{statement}
-use Rattle.smooth.proofs.offset.shift_of.Tie as tie
+use Rattle.offset.proofs.offset.shift_of.Statement.{statement}
+use Rattle.offset.proofs.offset.shift_of.Tie as tie
 
 small : (c : tie.Start) → c .args .old ≤ 255
 small c = omega (arith, c .fits .old)

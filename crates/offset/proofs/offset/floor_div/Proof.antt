@@ -8,9 +8,9 @@ use mir.Syntax.{w64}
 use mir.Val.{toZ, ofZ}
 use Rattle.arith.specs.Nearest.{floorDiv}
 use Rattle.arith.proofs.Bounds.{sized, in-range, exact}
-use Rattle.smooth.proofs.Division.{above-bits, floor-up, floor-down, floor-size, with-size, test-exact}
-use Rattle.smooth.proofs.offset.floor_div.Statement.{statement}
-use Rattle.smooth.proofs.offset.floor_div.Tie as tie
+use Rattle.offset.proofs.Division.{above-bits, floor-up, floor-down, floor-size, with-size, test-exact}
+use Rattle.offset.proofs.offset.floor_div.Statement.{statement}
+use Rattle.offset.proofs.offset.floor_div.Tie as tie
 
 div-result : tie.Need-div-result
 div-result c = let given = c .before .pre in (above-bits w64 (c .before .args .m) (given .above), in-range (search sized depth 9) tt)

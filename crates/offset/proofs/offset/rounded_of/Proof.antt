@@ -7,9 +7,9 @@ use lib.IntN.{pos, _*ℤ_}
 use mir.Syntax.{w64}
 use mir.Val.{toZ, ofZ}
 use Rattle.arith.proofs.Bounds.{sized, in-range, exact, within}
-use Rattle.smooth.proofs.Division.{above-exact, above-times, rounded-of}
-use Rattle.smooth.proofs.offset.rounded_of.Statement.{statement}
-use Rattle.smooth.proofs.offset.rounded_of.Tie as tie
+use Rattle.offset.proofs.Division.{above-exact, above-times, rounded-of}
+use Rattle.offset.proofs.offset.rounded_of.Statement.{statement}
+use Rattle.offset.proofs.offset.rounded_of.Tie as tie
 
 small : (c : tie.Start) → c .args .old ≤ 255
 small c = omega (arith, c .fits .old)

@@ -2,9 +2,9 @@
 use lib.IntN.{pos}
 use borrow.Author.Needs.{needs}
 use Rattle.arith.proofs.Bounds.{sized, exact}
-use Rattle.smooth.proofs.Division.{with-size}
-use Rattle.smooth.proofs.offset.signed.Statement.{statement}
-use Rattle.smooth.proofs.offset.signed.Tie as tie
+use Rattle.offset.proofs.Division.{with-size}
+use Rattle.offset.proofs.offset.signed.Statement.{statement}
+use Rattle.offset.proofs.offset.signed.Tie as tie
 
 returns : tie.Need-returns
 returns c = with-size (pos (c .args .n)) (exact (search sized depth 9) tt) (c .pre)

@@ -3,8 +3,8 @@ use mathlib.Core.Path.{ap, ap₂, _∙_}
 use borrow.Author.Needs.{needs}
 use lib.IntN.{pos, _-ℤ_}
 use Rattle.arith.proofs.Bounds.{sized, in-range, exact, within}
-use Rattle.smooth.proofs.offset.spread_of.Statement.{statement}
-use Rattle.smooth.proofs.offset.spread_of.Tie as tie
+use Rattle.offset.proofs.offset.spread_of.Statement.{statement}
+use Rattle.offset.proofs.offset.spread_of.Tie as tie
 
 returns : tie.Need-returns
 returns c =

@@ -12,9 +12,9 @@ use Rattle.chord.specs.Points.{Position}
 use Rattle.chord.specs.Crossing.{base, meeting, total}
 use Rattle.chord.proofs.Meetings.{sides→parted, total-some}
 use Rattle.table.proofs.Entries.{Inside}
-use Rattle.smooth.specs.Offset.{rounded, spread, shift, upon, newOffset, Around}
-use Rattle.smooth.proofs.Rounding.{rounded-inside}
-use Rattle.smooth.proofs.Meeting.{spread-is, shift-is, meeting-inside}
+use Rattle.offset.specs.Offset.{rounded, spread, shift, upon, newOffset, Around}
+use Rattle.offset.proofs.Rounding.{rounded-inside}
+use Rattle.offset.proofs.Meeting.{spread-is, shift-is, meeting-inside}
 
 -- v - o is n / t and b + v is m / t, so v is (m - b·t) / t
 from-base : (b o t m : ℕ) (n : ℤ) → pos ((b + o) * t) +ℤ n ≡ pos m → b * t ≤ m → pos (o * t) +ℤ n ≡ pos (m - b * t)
