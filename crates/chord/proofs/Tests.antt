@@ -1,19 +1,19 @@
--- The tests of a crossing, computed from numbers that equal those of the definitions; and a chord against the sticks of a run, one stick more.
+-- The tests of a crossing, computed from numbers that equal those of the definitions; and the test of a chord against the sticks of a run, as a loop begins it.
 use mathlib.Core.Path.{_≡_, refl, sym, _∙_, ap}
 use mathlib.Core.Bool.{Bool, true, false, _&&_, _||_}
-use Prim.Native.Nat.{ℕ, zero, suc, _+_, _*_, _-_, _≤_, _<_}
+use Prim.Native.Nat.{ℕ, _+_, _*_, _≤_, _<_}
 use native.Mathlib.Omega.{arith}
 use borrow.Author.Tests.{lt-ltb, le-ltb}
 use lib.Dec.{ltb}
 use Rattle.grid.specs.Layer.{Layer}
 use Rattle.grid.specs.Edges.{isStick}
-use Rattle.step.specs.Walk.{next}
 use Rattle.grid.specs.Questions.{Sound}
 use Rattle.grid.specs.declared.edge.Edge.{Edge}
 use Rattle.chord.specs.Points.{Position}
 use Rattle.chord.specs.Crossing.{across, line, base, parted, meeting, total, crosses}
 use Rattle.chord.specs.Runs.{crossesRun, NearEdge}
 use Rattle.step.proofs.Walks.{stick-sample}
+use Rattle.step.proofs.Following.{TestsLeft}
 
 -- from one side of a line to the other
 sides : ℕ → ℕ → ℕ → Bool
@@ -78,24 +78,7 @@ stick-near L sound e h =
     let inside = stick-sample L sound (e .vertical) (e .column) (e .row) h in
     record { column-below = omega (arith, sized); row-below = omega (arith, sized) }
 
--- The sticks that follow e: none, or the next one e′ and those that follow it
-
-pub run-none : (L : Layer) (p q : Position) (e : Edge) (n : ℕ) → n ≤ 0 → true ≡ crossesRun L p q e n
+-- the test of a chord against the sticks that follow e, before the first of them
+pub run-start : (L : Layer) (p q : Position) (e : Edge) (n : ℕ) → isStick L e ≡ true → TestsLeft L (crosses p q) (crossesRun L p q e n) e n
 unfolding crossesRun
-run-none L p q e zero h = refl
-run-none L p q e (suc n) h = absurd (omega arith)
-
-run-more : (L : Layer) (p q : Position) (e e′ : Edge) (n : ℕ) → e′ ≡ next L e → 0 < n
-    → crossesRun L p q e n ≡ (crosses p q e′ && crossesRun L p q e′ (n - 1))
-unfolding crossesRun
-run-more L p q e e′ zero step h = absurd (omega arith)
-run-more L p q e e′ (suc n) step h =
-    let less : suc n - 1 ≡ n = omega arith in
-    rw (less, step)
-
-module _ (L : Layer) (p q : Position) (e e′ : Edge) (n : ℕ) (step : e′ ≡ next L e) (some : 0 < n) where
-  pub run-missed : crosses p q e′ ≡ false → false ≡ crossesRun L p q e n
-  run-missed f = sym (run-more L p q e e′ n step some ∙ ap (λ (b : Bool). b && crossesRun L p q e′ (n - 1)) f)
-
-  pub run-crossed : crosses p q e′ ≡ true → crossesRun L p q e′ (n - 1) ≡ crossesRun L p q e n
-  run-crossed t = sym (run-more L p q e e′ n step some ∙ ap (λ (b : Bool). b && crossesRun L p q e′ (n - 1)) t)
+run-start L p q e n stick = record { stick = stick; same = refl }

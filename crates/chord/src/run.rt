@@ -6,11 +6,8 @@ use grid::Edge;
 use grid::Size;
 use step::next_stick;
 ghost use mathlib.Core.Path.{_≡_};
-ghost use mathlib.Core.Bool.{true};
 ghost use Rattle.grid.specs.Layer.{layerOf};
-ghost use Rattle.grid.specs.Edges.{isStick};
-ghost use Rattle.grid.specs.Questions.{Sound};
-ghost use Rattle.chord.specs.Runs.{crossesRun, Near};
+ghost use Rattle.chord.specs.Runs.{crossesRun, ChordAt};
 
 // Whether the chord crosses each of the `count` sticks that follow stick e on its contour.
 pub fn crosses_run(
@@ -21,10 +18,7 @@ pub fn crosses_run(
     e: Edge,
     count: usize,
 ) -> bool
-    requires { ⌜ Sound (layerOf size (now bitmap)) ⌝ }
-    requires { ⌜ Near p ⌝ }
-    requires { ⌜ Near q ⌝ }
-    requires { ⌜ isStick (layerOf size (now bitmap)) e ≡ true ⌝ }
+    requires { ⌜ ChordAt (layerOf size (now bitmap)) p q e ⌝ }
     ensures { λ r. ⌜ r ≡ crossesRun (layerOf size (now (bitmap .entry))) p q e count ⌝ }
 {
     let mut at = e;

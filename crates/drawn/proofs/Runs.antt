@@ -1,8 +1,8 @@
 -- A gap as a run of sticks: the test of a run is that of the removed sticks between the ends of a drawn edge. Edges of the grid are near enough
 -- for the products of a test to fit.
 use mathlib.Core.Path.{_≡_, refl, ap}
-use mathlib.Core.Bool.{Bool, true, _&&_}
-use mathlib.Core.List.{List}
+use mathlib.Core.Bool.{true}
+use mathlib.Core.List.{List, _∷_}
 use Prim.Native.Nat.{ℕ, zero, suc, _+_}
 use native.Mathlib.Omega.{arith}
 use lib.ListN.{length}
@@ -14,7 +14,7 @@ use Rattle.grid.specs.Questions.{Sized}
 use Rattle.grid.specs.declared.layer.Size.{Size}
 use Rattle.grid.specs.declared.edge.Edge.{Edge}
 use Rattle.grid.proofs.Numbers.{within, columns-narrow, rows-small}
-use Rattle.step.specs.Walk.{next}
+use Rattle.step.specs.Walk.{next, following}
 use Rattle.chord.specs.Points.{Position}
 use Rattle.chord.specs.Crossing.{crosses}
 use Rattle.chord.specs.Runs.{crossesRun, NearEdge}
@@ -30,18 +30,23 @@ in-grid-near size sized e h =
       row-below = omega (arith, w .row-below, rows-small size sized (e .vertical) (e .row + 1) (omega (arith, w .row-below)) .0);
     }
 
--- To test the sticks of a gap is to test as many sticks as it has, one after the other
+-- A gap is as many sticks as it has, one after the other
 
-each-run : (L : Layer) (t : List ℕ) (p q : Position) (n : ℕ) (e : Edge)
+following-gap : (L : Layer) (t : List ℕ) (n : ℕ) (e : Edge)
     → let gap = removedFrom (next L) L t n e in
-    each (crosses p q) gap ≡ crossesRun L p q e (length gap)
-unfolding removedFrom crossesRun
-each-run L t p q zero e = refl
-each-run L t p q (suc n) e =
+    gap ≡ following L (length gap) e
+unfolding removedFrom
+following-gap L t zero e = refl
+following-gap L t (suc n) e =
     both-sides (removedAt L t (next L e))
-    (λ r. rw (gap-over (next L) L t n e r) (ap (λ (b : Bool). crosses p q (next L e) && b) (each-run L t p q n (next L e))))
+    (λ r. rw (gap-over (next L) L t n e r) (ap (λ (l : List Edge). next L e ∷ l) (following-gap L t n (next L e))))
     (λ r. rw (gap-here (next L) L t (suc n) e r))
 
+pub gap-following : (L : Layer) (t : List ℕ) (e : Edge) → gapAfter L t e ≡ following L (length (gapAfter L t e)) e
+gap-following L t e = following-gap L t (edgeCount (L .size)) e
+
+-- so to test its sticks is to test so many
 pub gap-run : (L : Layer) (t : List ℕ) (p q : Position) (e : Edge)
     → each (crosses p q) (gapAfter L t e) ≡ crossesRun L p q e (length (gapAfter L t e))
-gap-run L t p q e = each-run L t p q (edgeCount (L .size)) e
+unfolding crossesRun
+gap-run L t p q e = ap (each (crosses p q)) (gap-following L t e)

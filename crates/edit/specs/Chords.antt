@@ -2,21 +2,22 @@
 use mathlib.Core.Path.{_≡_}
 use mathlib.Core.Bool.{Bool, true, not, _&&_}
 use mathlib.Core.List.{List, [], _∷_}
-use Prim.Native.Nat.{ℕ, zero, suc}
+use Prim.Native.Nat.{ℕ}
 use lib.Dec.{leb}
 use lib.ListN.{length, getD}
+use Rattle.arith.specs.Lists.{each}
 use Rattle.grid.specs.Layer.{Layer}
-use Rattle.grid.specs.Edges.{isStick, inGrid, number, edgeCount}
-use Rattle.grid.specs.Questions.{firstNo, ifAllYes, Sized, Sound}
+use Rattle.grid.specs.Edges.{inGrid, number, edgeCount}
+use Rattle.grid.specs.Questions.{firstNo, ifAllYes, Sized}
 use Rattle.grid.specs.declared.layer.Size.{Size}
 use Rattle.grid.specs.declared.edge.Edge.{Edge}
 use Rattle.grid.specs.declared.question.Refusal.the-variants.{NoCrossing, BeyondTolerance}
 use Rattle.grid.specs.declared.question.Answer.{Answer}
-use Rattle.step.specs.Walk.{next}
+use Rattle.step.specs.Walk.{following}
 use Rattle.contour.specs.Contours.{sameEdge}
 use Rattle.chord.specs.Points.{Position}
 use Rattle.chord.specs.Crossing.{slidesWithin}
-use Rattle.chord.specs.Runs.{crossesRun, Near}
+use Rattle.chord.specs.Runs.{crossesRun, ChordAt}
 use Rattle.table.specs.Entries.{entryOf}
 use Rattle.table.specs.Vertices.{isKept, offsetAt}
 use Rattle.table.specs.Stores.{slid, without}
@@ -27,10 +28,11 @@ use Rattle.edit.specs.Edits.{Named, askAt, edgeNamed, carriesKept, goodO
 use Rattle.edit.specs.declared.redraw.Chord.{Chord}
 
 -- the vertices of the n sticks that follow e on its contour would slide at most T to the chord from p to q, from their stored offsets
+abbrev pub slidesAt : Layer → List ℕ → ℕ → Position → Position → Edge → Bool
+slidesAt L t tolerance p q u = slidesWithin tolerance p q u (offsetAt L t u)
+
 unfoldable pub withinRun : Layer → List ℕ → ℕ → Position → Position → Edge → ℕ → Bool
-withinRun L t tolerance p q e zero = true
-withinRun L t tolerance p q e (suc n) =
-    slidesWithin tolerance p q (next L e) (offsetAt L t (next L e)) && withinRun L t tolerance p q (next L e) n
+withinRun L t tolerance p q e n = each (slidesAt L t tolerance p q) (following L n e)
 
 -- the drawn edge that starts at the kept vertex of e: its ends, and how many removed sticks it passes after e
 abbrev pub chordOf : Layer → List ℕ → Edge → Chord
@@ -80,11 +82,8 @@ storedIf answer t t′ = ifAllYes answer (λ q place. t) t′
 -- What the functions of this crate are given
 
 -- a chord on a sound layer
-pub record Laid (L : Layer) (c : Chord) : Type 0 where
-  pub sound : Sound L
-  pub from-near : Near (c .from)
-  pub to-near : Near (c .to)
-  pub stick : isStick L (c .stick) ≡ true
+abbrev pub Laid : Layer → Chord → Type 0
+Laid L c = ChordAt L (c .from) (c .to) (c .stick)
 
 -- it, or the two of a slide, with a table of the layer's length
 pub record Measurable (L : Layer) (t : List ℕ) (c : Chord) : Type 0 where

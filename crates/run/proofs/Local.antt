@@ -11,7 +11,7 @@ use Rattle.grid.specs.Layer.{Layer}
 use Rattle.grid.specs.Edges.{number, isStick}
 use Rattle.grid.specs.Questions.{Sound}
 use Rattle.grid.specs.declared.edge.Edge.{Edge}
-use Rattle.step.specs.Walk.{next}
+use Rattle.step.specs.Walk.{next, following}
 use Rattle.contour.specs.Walk.{OnContour, ahead}
 use Rattle.contour.specs.Contours.{walkOf}
 use Rattle.contour.proofs.Members.{on-next}
@@ -20,7 +20,7 @@ use Rattle.chord.specs.Points.{Position, position}
 use Rattle.table.specs.Stores.{without}
 use Rattle.table.proofs.Local.{Agree, Off, same-offset, stored-agree}
 use Rattle.drawn.specs.Drawn.{vertex}
-use Rattle.run.specs.Runs.{stickAfter, following, between, chordPasses, passes}
+use Rattle.run.specs.Runs.{stickAfter, between, chordPasses, passes}
 
 module _ (L : Layer) (sound : Sound L) (f : Edge) (stick : isStick L f ≡ true) where
   -- a walk along the contour stays on it

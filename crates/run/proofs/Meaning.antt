@@ -13,7 +13,7 @@ use Rattle.grid.specs.Edges.{isStick}
 use Rattle.grid.specs.Questions.{Sound}
 use Rattle.grid.specs.declared.edge.Edge.{Edge}
 use Rattle.grid.specs.declared.question.Answer.the-variants.{Yes}
-use Rattle.step.specs.Walk.{next}
+use Rattle.step.specs.Walk.{next, following}
 use Rattle.contour.specs.Walk.{ahead, occurrences}
 use Rattle.contour.specs.Contours.{walkOf, contourOf, sameEdge}
 use Rattle.contour.proofs.Orbit.{ahead-one}
@@ -26,7 +26,7 @@ use Rattle.drawn.specs.Drawn.{vertex}
 use Rattle.drawn.proofs.Vertices.{vertices-of}
 use Rattle.held.proofs.HeldFacts.{each-at}
 use Rattle.held.proofs.Holding.{each-all}
-use Rattle.run.specs.Runs.{stickAfter, following, between, chordPasses, passes}
+use Rattle.run.specs.Runs.{stickAfter, between, chordPasses, passes}
 use Rattle.run.specs.Meaning.{BetweenSticks, RunPasses}
 use Rattle.run.proofs.Passing.{Apart, run-apart}
 

@@ -14,14 +14,14 @@ use Rattle.grid.specs.Layer.{Layer}
 use Rattle.grid.specs.Edges.{isStick}
 use Rattle.grid.specs.Questions.{Sound}
 use Rattle.grid.specs.declared.edge.Edge.{Edge}
-use Rattle.step.specs.Walk.{next}
+use Rattle.step.specs.Walk.{next, following}
 use Rattle.contour.specs.Walk.{ahead}
 use Rattle.contour.specs.Contours.{walkOf, contourOf}
 use Rattle.contour.proofs.Orbit.{round}
 use Rattle.contour.proofs.Sticks.{laws}
 use Rattle.chord.specs.Crossing.{crosses}
 use Rattle.drawn.specs.Drawn.{vertex}
-use Rattle.run.specs.Runs.{stickAfter, following, passes, chordPasses}
+use Rattle.run.specs.Runs.{stickAfter, passes, chordPasses}
 use Rattle.run.proofs.Steps.{between-none}
 
 -- a test of each of the k sticks that follow e

@@ -1,7 +1,7 @@
 -- Walks along a contour: steps taken together, and what the loops along a contour and along a run cite. Each has a record for what holds where
 -- the loop stands, with the sticks that are left, and laws for one more turn and for the end.
 use mathlib.Core.Path.{_≡_, refl, sym, _∙_, ap}
-use mathlib.Core.Bool.{Bool, true, false, _&&_}
+use mathlib.Core.Bool.{true, false}
 use mathlib.Core.List.{List, [], _∷_, foldl}
 use Prim.Native.Nat.{ℕ, zero, suc, _+_, _-_, _≤_, _<_}
 use native.Mathlib.Omega.{arith}
@@ -13,7 +13,7 @@ use Rattle.grid.specs.Questions.{Sound}
 use Rattle.grid.specs.declared.edge.Edge.{Edge}
 use Rattle.grid.proofs.Numbers.{edges-small}
 use Rattle.step.specs.Walk.{next}
-use Rattle.step.proofs.Walks.{next-stick}
+use Rattle.step.proofs.Following.{on-next, following-none, following-more, TestsLeft}
 use Rattle.contour.specs.Walk.{ahead, rest}
 use Rattle.contour.specs.Contours.{walkOf, contourOf, sameEdge}
 use Rattle.contour.proofs.Orbit.{ahead-add, ahead-one, round}
@@ -26,7 +26,7 @@ use Rattle.table.specs.Lent.{LentAt}
 use Rattle.table.specs.declared.entry.Entry.the-variants.{Removed}
 use Rattle.table.proofs.Stores.{store-length}
 use Rattle.drawn.specs.Drawn.{vertex}
-use Rattle.run.specs.Runs.{stickAfter, following, between, chordPasses, passes, StickOf, HasSticks, RunLent}
+use Rattle.run.specs.Runs.{stickAfter, between, chordPasses, passes, StickOf, HasSticks, RunLent}
 
 -- Steps
 
@@ -49,10 +49,6 @@ module _ (L : Layer) (f : Edge) where
 
   pub stick-on : {at : Edge} (n : ℕ) → Sound L → isStick L f ≡ true → at ≡ stickAfter L n f → isStick L at ≡ true
   stick-on n sound stick here = rw here (ahead-one (walkOf L) (laws L sound) n f stick)
-
-module _ {L : Layer} (sound : Sound L) where
-  pub on-next : (e : Edge) {e′ : Edge} → isStick L e ≡ true → e′ ≡ next L e → isStick L e′ ≡ true
-  on-next e stick step = rw step (next-stick L sound e stick)
 
 -- A contour of n sticks: n steps lead back, and it has no more than there are edges
 
@@ -134,40 +130,14 @@ module _ {L : Layer} {e : Edge} {n : ℕ} {at : Edge} {left : ℕ} (here : Steps
 -- The sticks between the ends of a run, of which none or one more is left
 
 pub between-none : (L : Layer) (e : Edge) (n : ℕ) → n ≤ 1 → between L e n ≡ []
-between-none L e n over = let m : n - 1 ≡ 0 = omega arith in rw m
+between-none L e n over = following-none L (n - 1) e (omega arith)
 
 between-more : (L : Layer) (e : Edge) (n : ℕ) {e′ : Edge} → 1 < n → e′ ≡ next L e → between L e n ≡ e′ ∷ between L e′ (n - 1)
-between-more L e n some step =
-    let m : n - 1 ≡ suc (n - 1 - 1) = omega arith in
-    ap (λ (k : ℕ). following L k e) m ∙ rw step
-
--- A test of all of them: what the test of those that are left says is what the test of all says
-
-pub record TestsLeft (L : Layer) (test : Edge → Bool) (answer : Bool) (at : Edge) (left : ℕ) : Type 0 where
-  pub stick : isStick L at ≡ true
-  pub same : each test (between L at left) ≡ answer
-
-module _ {L : Layer} {test : Edge → Bool} {answer : Bool} {at : Edge} {left : ℕ} (here : TestsLeft L test answer at left) where
-  module _ {at′ : Edge} (some : 1 < left) (step : at′ ≡ next L at) where
-    one-test : each test (between L at left) ≡ (test at′ && each test (between L at′ (left - 1)))
-    one-test = ap (each test) (between-more L at left some step)
-
-    pub tests-no : test at′ ≡ false → false ≡ answer
-    tests-no fails = sym (one-test ∙ ap (λ (b : Bool). b && each test (between L at′ (left - 1))) fails) ∙ here .same
-
-    pub tests-turn : Sound L → test at′ ≡ true → TestsLeft L test answer at′ (left - 1)
-    tests-turn sound holds =
-        record {
-          stick = on-next sound at (here .stick) step;
-          same = sym (one-test ∙ ap (λ (b : Bool). b && each test (between L at′ (left - 1))) holds) ∙ here .same;
-        }
-
-  pub tests-end : left ≤ 1 → true ≡ answer
-  tests-end over = sym (ap (each test) (between-none L at left over)) ∙ here .same
+between-more L e n some step = following-more L (n - 1) e (omega arith) step
 
 -- whether a run passes: the test of all sticks between, by the vertices p and q at its ends
 pub tests-start : {L : Layer} {t : List ℕ} {e end : Edge} {n : ℕ} (tolerance : ℕ) (p q : Position) → RunLent L t e end n
-    → p ≡ vertex L t e → q ≡ vertex L t end → TestsLeft L (chordPasses L t tolerance p q) (passes L t tolerance e n) e n
+    → p ≡ vertex L t e → q ≡ vertex L t end → TestsLeft L (chordPasses L t tolerance p q) (passes L t tolerance e n) e (n - 1)
 unfolding passes
 tests-start {L} {t} {e} {end} {n} tolerance p q given at-p at-q =
     let to : q ≡ vertex L t (stickAfter L n e) = at-q ∙ ap (vertex L t) (given .ends) in

@@ -2,15 +2,15 @@
 -- so many steps on.
 use mathlib.Core.Path.{_≡_}
 use mathlib.Core.Bool.{Bool, true, _&&_}
-use mathlib.Core.List.{List, [], _∷_}
-use Prim.Native.Nat.{ℕ, zero, suc, _-_}
+use mathlib.Core.List.{List}
+use Prim.Native.Nat.{ℕ, _-_}
 use lib.ListN.{length}
 use Rattle.arith.specs.Lists.{each}
 use Rattle.grid.specs.Layer.{Layer}
 use Rattle.grid.specs.Edges.{edgeCount, isStick}
 use Rattle.grid.specs.Questions.{Sound}
 use Rattle.grid.specs.declared.edge.Edge.{Edge}
-use Rattle.step.specs.Walk.{next}
+use Rattle.step.specs.Walk.{following}
 use Rattle.contour.specs.Walk.{ahead}
 use Rattle.contour.specs.Contours.{walkOf, contourOf}
 use Rattle.chord.specs.Points.{Position}
@@ -21,11 +21,6 @@ use Rattle.drawn.specs.Drawn.{vertex}
 -- the stick n steps on from e
 abbrev pub stickAfter : Layer → ℕ → Edge → Edge
 stickAfter L n e = ahead (walkOf L) n e
-
--- the n sticks that follow e
-abbrev pub following : Layer → ℕ → Edge → List Edge
-following L zero e = []
-following L (suc n) e = next L e ∷ following L n (next L e)
 
 -- the sticks between the ends of a run of n edges
 abbrev pub between : Layer → Edge → ℕ → List Edge

@@ -14,7 +14,7 @@ use Rattle.grid.specs.Edges.{isStick, edgeCount}
 use Rattle.grid.specs.Questions.{Sound}
 use Rattle.grid.specs.declared.edge.Edge.{Edge}
 use Rattle.grid.specs.declared.question.Answer.the-variants.{Yes}
-use Rattle.step.specs.Walk.{next}
+use Rattle.step.specs.Walk.{next, following}
 use Rattle.step.proofs.Walks.{next-stick}
 use Rattle.contour.specs.Walk.{ahead}
 use Rattle.contour.specs.Contours.{walkOf, contourOf}
@@ -28,7 +28,7 @@ use Rattle.drawn.specs.Drawn.{vertex}
 use Rattle.drawn.proofs.Vertices.{vertices-of, kept-of}
 use Rattle.drawn.proofs.Stores.{removal-vertex, removal-more, removal-entries, removal-length}
 use Rattle.drawn.proofs.FourKept.{four-sticks}
-use Rattle.run.specs.Runs.{stickAfter, following, passes}
+use Rattle.run.specs.Runs.{stickAfter, passes}
 use Rattle.run.proofs.Passing.{Apart, passes-crosses, contour-apart}
 use Rattle.simplify.specs.Runs.{Progress, half, oneTried, tryRun, simplifyContour}
 use Rattle.simplify.proofs.Trying.{Split, split, split-of, try-passes, try-splits, inner-is, contour-runs}

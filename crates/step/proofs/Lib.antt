@@ -2,3 +2,4 @@
 pub mod Links
 pub mod Turns
 pub mod Walks
+pub mod Following

@@ -1,6 +1,7 @@
 -- The direction in which a contour crosses a stick, and the stick that comes next.
 use mathlib.Core.Bool.{Bool, cond, not}
-use Prim.Native.Nat.{_-_}
+use mathlib.Core.List.{List, [], _∷_}
+use Prim.Native.Nat.{ℕ, zero, suc, _-_}
 use Rattle.grid.specs.Layer.{Layer}
 use Rattle.grid.specs.Edges.{firstEnd}
 use Rattle.step.specs.Cells.{link, edgeOf}
@@ -36,3 +37,8 @@ next L e = edgeOf (link L (ahead L e))
 
 unfoldable pub prev : Layer → Edge → Edge
 prev L e = edgeOf (link L (behind L e))
+
+-- the n sticks that follow e
+abbrev pub following : Layer → ℕ → Edge → List Edge
+following L zero e = []
+following L (suc n) e = next L e ∷ following L n (next L e)

@@ -31,7 +31,7 @@ returns c =
     let to = c .before .before .vertex-at2 in (
       removal-over given (from .ensures .0) (to .ensures .0) (before .ensures .0) (after .ensures .0)
           (before .ensures .1 .0) (after .ensures .1 .0),
-      record { sound = given .accepted .sound; from-near = from .ensures .1; to-near = to .ensures .1; stick = before .ensures .1 .1 },
+      record { sound = given .accepted .sound; p-near = from .ensures .1; q-near = to .ensures .1; stick = before .ensures .1 .1 },
     )
 
 pub joined-spec : {M : Type 1} → statement M

@@ -13,7 +13,7 @@ returns c =
     let to = c .position-of in (
       slide-into (given .at) (inside-of _ (given .offset)) (from .ensures .0) (to .ensures .0)
           (before .ensures .0) (before .ensures .1 .0),
-      record { sound = given .at .accepted .sound; from-near = from .ensures .1; to-near = to .ensures .1; stick = before .ensures .1 .1 },
+      record { sound = given .at .accepted .sound; p-near = from .ensures .1; q-near = to .ensures .1; stick = before .ensures .1 .1 },
     )
 
 pub slid-into-spec : {M : Type 1} → statement M

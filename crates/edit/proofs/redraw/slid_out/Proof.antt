@@ -13,7 +13,7 @@ returns c =
     let to = c .vertex-at in (
       slide-out (given .at) (inside-of _ (given .offset)) (from .ensures .0) (to .ensures .0)
           (after .ensures .0) (after .ensures .1 .0),
-      record { sound = given .at .accepted .sound; from-near = from .ensures .1; to-near = to .ensures .1; stick = given .at .drawn .stick },
+      record { sound = given .at .accepted .sound; p-near = from .ensures .1; q-near = to .ensures .1; stick = given .at .drawn .stick },
     )
 
 pub slid-out-spec : {M : Type 1} → statement M

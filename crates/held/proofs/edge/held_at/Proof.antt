@@ -1,6 +1,5 @@
 -- `held_at` meets its contract.
 use mathlib.Core.Path.{_≡_, sym, ap, _∙_}
-use borrow.Author.Needs.{needs}
 use Rattle.grid.specs.Layer.{layerOf}
 use Rattle.chord.specs.Runs.{crossesRun}
 use Rattle.table.specs.Vertices.{offsetAt}
@@ -26,6 +25,11 @@ vertex-at-requires-2 c κs =
     let given = c .before .before .before .before .pre .0 in
     has-entry (record { sound = given .sound; exact = given .exact; stick = c .before .kept-after .ensures .1 .1 })
 
+crosses-run-requires : tie.Need-crosses-run-requires
+crosses-run-requires c κs =
+    let given = c .before .before .before .before .before .pre .0 in
+    record { sound = given .sound; p-near = c .before .vertex-at .ensures .1; q-near = c .vertex-at2 .ensures .1; stick = given .stick }
+
 returns : tie.Need-returns
 unfolding edgeCrosses offsetAt
 returns c =
@@ -43,4 +47,4 @@ returns c =
 pub held-at-spec : {M : Type 1} → statement M
 held-at-spec =
     tie.close
-    (tie.spec kept-after-requires vertex-at-requires vertex-at-requires-2 (λ c κs. search needs) returns)
+    (tie.spec kept-after-requires vertex-at-requires vertex-at-requires-2 crosses-run-requires returns)

@@ -37,7 +37,12 @@ position-from-requires-2 c κs =
 crosses-run-requires : tie.Need-crosses-run-requires
 crosses-run-requires c κs =
     let given = c .before .before .before .before .before .pre in
-    (given .0 .sound, (c .before .position-from .ensures .1, (c .position-from2 .ensures .1, vertex-stick (given .0 .sound) (given .1 .0))))
+    record {
+      sound = given .0 .sound;
+      p-near = c .before .position-from .ensures .1;
+      q-near = c .position-from2 .ensures .1;
+      stick = vertex-stick (given .0 .sound) (given .1 .0);
+    }
 
 returns : tie.Need-returns
 unfolding edgeCrosses

@@ -1,19 +1,22 @@
 -- `passes_run` meets its contract. The invariant: the sticks that are left pass if all do.
 use mathlib.Core.Path.{sym, _∙_}
+use Prim.Native.Nat.{_-_}
+use native.Mathlib.Omega.{arith}
 use borrow.Author.Needs.{needs}
 use borrow.Author.Tests.{not-true, not-false}
 use Rattle.grid.specs.Layer.{layerOf}
 use Rattle.table.specs.Vertices.{offsetAt}
 use Rattle.table.proofs.Lent.{has-entry}
 use Rattle.run.specs.Runs.{chordPasses, passes}
-use Rattle.run.proofs.Steps.{on-next, lent-start, lent-end, TestsLeft, tests-start, tests-no, tests-turn, tests-end}
+use Rattle.step.proofs.Following.{on-next, TestsLeft, tests-no, tests-turn, tests-end}
+use Rattle.run.proofs.Steps.{lent-start, lent-end, tests-start}
 use Rattle.run.proofs.passes.passes_run.Statement.{statement}
 use Rattle.run.proofs.passes.passes_run.Tie as tie
 
 abbrev Inv-loop : tie.InvT-loop
 Inv-loop size bitmap table t n p q at₀ left₀ at left =
     let L = layerOf size bitmap in
-    TestsLeft L (chordPasses L table t p q) (passes L table t at₀ n) at left
+    TestsLeft L (chordPasses L table t p q) (passes L table t at₀ n) at (left - 1)
 
 abbrev μ-loop : tie.MeasureT-loop
 μ-loop size bitmap table t n p q at₀ left₀ at left = left
@@ -44,14 +47,14 @@ chord-passes-requires c κs =
 returns : tie.Need-returns Inv-loop μ-loop
 returns c =
     let stepped = c .before .before in
-    tests-no (stepped .before .before .loop .inv) (stepped .before .loop-test .taken) (stepped .next-stick .ensures)
+    tests-no (stepped .before .before .loop .inv) (omega (arith, stepped .before .loop-test .taken)) (stepped .next-stick .ensures)
     (sym (c .before .chord-passes .ensures) ∙ not-true _ (c .if1 .taken))
 
 loop-again : tie.Need-loop-again Inv-loop μ-loop
 loop-again c =
     let stepped = c .before .before in
     let at-loop = stepped .before .before in
-    tests-turn (at-loop .loop .inv) (stepped .before .loop-test .taken) (stepped .next-stick .ensures)
+    tests-turn (at-loop .loop .inv) (omega (arith, stepped .before .loop-test .taken)) (stepped .next-stick .ensures)
     (at-loop .before .before .before .before .before .pre .sound) (sym (c .before .chord-passes .ensures) ∙ not-false _ (c .if1 .left))
 
 pub passes-run-spec : {M : Type 1} → statement M
@@ -59,4 +62,4 @@ passes-run-spec =
     tie.close
     (tie.spec Inv-loop μ-loop (λ c κs. has-entry (lent-start (c .before .before .pre)))
     (λ c κs. has-entry (lent-end (c .before .before .before .pre))) loop-holds next-stick-requires chord-passes-requires returns (λ c. search needs) (λ c. search needs) loop-again
-    (λ c. tests-end (c .before .loop .inv) (c .loop-test .left)))
+    (λ c. tests-end (c .before .loop .inv) (omega (arith, c .loop-test .left))))
