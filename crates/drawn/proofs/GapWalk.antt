@@ -26,7 +26,7 @@ use Rattle.contour.proofs.Orbit.{run, ahead-next, ahead-one, length-run, round}
 use Rattle.contour.proofs.Members.{on-ahead, on-one}
 use Rattle.contour.proofs.Sticks.{laws}
 use Rattle.table.specs.Vertices.{removedAt}
-use Rattle.drawn.specs.Neighbours.{removedFrom, keptFrom}
+use Rattle.drawn.specs.Neighbours.{removedFrom, keptFrom, NeighbourFound}
 use Rattle.drawn.proofs.Gaps.{gap-over, gap-here, kept-over, kept-here}
 
 -- the walk on the sticks of a layer by a step: `walkOf L` by `next L`, and the same contours the other way round by `prev L`
@@ -145,9 +145,10 @@ module _ {step undo : Edge → Edge} {t : List ℕ} (L : Layer) (law : Laws (wal
         passed-length =
             sym (ap length (gap-run step undo L t (edgeCount (L .size)) gap e (omega (arith, passed-below)) gap-of) ∙ length-run (walkBy step undo L) gap (step e))
 
-        pub passed-last : (x′ ≡ keptFrom step L t (edgeCount (L .size)) e)
-            × ((gap ≡ length (removedFrom step L t (edgeCount (L .size)) e)) × (isStick L x′ ≡ true))
-        passed-last = (passed-end, (passed-length, passed-stick))
+        pub passed-last :
+            NeighbourFound L (keptFrom step L t (edgeCount (L .size)) e) (removedFrom step L t (edgeCount (L .size)) e)
+            (record { stick = x′; gap = gap })
+        passed-last = record { kept = passed-end; gap = passed-length; stick = passed-stick }
 
 module _ (step undo : Edge → Edge) (L : Layer) (t : List ℕ) (law : Laws (walkBy step undo L)) (e : Edge) (stick : isStick L e ≡ true) where
   -- a gap that is found ends within a round

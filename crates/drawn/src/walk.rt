@@ -6,13 +6,11 @@ use step::previous_stick;
 use table::entry_at;
 use table::is_removed;
 ghost use mathlib.Core.Path.{_≡_};
-ghost use mathlib.Core.Bool.{true, false};
-ghost use lib.ListN.{length};
+ghost use mathlib.Core.Bool.{false};
 ghost use Rattle.grid.specs.Layer.{layerOf};
-ghost use Rattle.grid.specs.Edges.{isStick};
 ghost use Rattle.table.specs.Vertices.{removedAt};
 ghost use Rattle.table.specs.Lent.{LentAt};
-ghost use Rattle.drawn.specs.Neighbours.{gapAfter, gapBefore, nextKept, previousKept};
+ghost use Rattle.drawn.specs.Neighbours.{gapAfter, gapBefore, nextKept, previousKept, NeighbourFound};
 
 // The other end of the drawn edge that starts or ends at a stick, and how many removed sticks lie between.
 pub struct EdgeEnd {
@@ -24,9 +22,7 @@ pub struct EdgeEnd {
 pub fn kept_after(size: Size, bitmap: &[u8], table: &[u16], e: Edge) -> EdgeEnd
     requires { ⌜ LentAt (layerOf size (now bitmap)) (now table) e ⌝ }
     requires { ⌜ removedAt (layerOf size (now bitmap)) (now table) e ≡ false ⌝ }
-    ensures { λ r. ⌜ r .stick ≡ nextKept (layerOf size (now (bitmap .entry))) (now (table .entry)) e ⌝ }
-    ensures { λ r. ⌜ r .gap ≡ length (gapAfter (layerOf size (now (bitmap .entry))) (now (table .entry)) e) ⌝ }
-    ensures { λ r. ⌜ isStick (layerOf size (now (bitmap .entry))) (r .stick) ≡ true ⌝ }
+    ensures { λ r. ⌜ NeighbourFound (layerOf size (now (bitmap .entry))) (nextKept (layerOf size (now (bitmap .entry))) (now (table .entry)) e) (gapAfter (layerOf size (now (bitmap .entry))) (now (table .entry)) e) r ⌝ }
 {
     let mut at = e;
     let mut gap: usize = 0;
@@ -44,9 +40,7 @@ pub fn kept_after(size: Size, bitmap: &[u8], table: &[u16], e: Edge) -> EdgeEnd
 pub fn kept_before(size: Size, bitmap: &[u8], table: &[u16], e: Edge) -> EdgeEnd
     requires { ⌜ LentAt (layerOf size (now bitmap)) (now table) e ⌝ }
     requires { ⌜ removedAt (layerOf size (now bitmap)) (now table) e ≡ false ⌝ }
-    ensures { λ r. ⌜ r .stick ≡ previousKept (layerOf size (now (bitmap .entry))) (now (table .entry)) e ⌝ }
-    ensures { λ r. ⌜ r .gap ≡ length (gapBefore (layerOf size (now (bitmap .entry))) (now (table .entry)) e) ⌝ }
-    ensures { λ r. ⌜ isStick (layerOf size (now (bitmap .entry))) (r .stick) ≡ true ⌝ }
+    ensures { λ r. ⌜ NeighbourFound (layerOf size (now (bitmap .entry))) (previousKept (layerOf size (now (bitmap .entry))) (now (table .entry)) e) (gapBefore (layerOf size (now (bitmap .entry))) (now (table .entry)) e) r ⌝ }
 {
     let mut at = e;
     let mut gap: usize = 0;

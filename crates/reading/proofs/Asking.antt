@@ -64,7 +64,7 @@ module _ {L : Layer} {s : List ℕ} {first v : Vertex} (stand : VerticesStand L 
           let end =
           passed-last L (forth L (stand .sound)) stick (seek .passed) (after .stick)
           (removed-is stand (after .expected) bytes ∙ ne-eqb _ _ letter) in
-          record { kept = end .0; gap = end .1 .0; expected = after .expected }
+          record { kept = end .kept; gap = end .gap; expected = after .expected }
 
 -- Along a contour: the walk stands at the vertex v, and `kept` vertices before it are kept
 

@@ -12,7 +12,7 @@ returns c =
     let from = c .before .position-of in
     let to = c .vertex-at in (
       slide-out (given .at) (inside-of _ (given .offset)) (from .ensures .0) (to .ensures .0)
-          (after .ensures .0) (after .ensures .1 .0),
+          (after .ensures .kept) (after .ensures .gap),
       record { sound = given .at .accepted .sound; p-near = from .ensures .1; q-near = to .ensures .1; stick = given .at .drawn .stick },
     )
 
@@ -20,4 +20,4 @@ pub slid-out-spec : {M : Type 1} → statement M
 slid-out-spec =
     tie.close
     (tie.spec (λ c κs. walk-from (c .before .before .pre .at)) (λ c κs. near-at (c .before .before .before .pre .at))
-    (λ c κs. read-at (c .before .before .before .before .pre .at .accepted) _ (c .before .kept-after .ensures .1 .1)) returns)
+    (λ c κs. read-at (c .before .before .before .before .pre .at .accepted) _ (c .before .kept-after .ensures .stick)) returns)

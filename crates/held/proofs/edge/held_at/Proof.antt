@@ -23,7 +23,7 @@ vertex-at-requires c κs = has-entry (c .before .before .before .pre .0)
 vertex-at-requires-2 : tie.Need-vertex-at-requires-2
 vertex-at-requires-2 c κs =
     let given = c .before .before .before .before .pre .0 in
-    has-entry (record { sound = given .sound; exact = given .exact; stick = c .before .kept-after .ensures .1 .1 })
+    has-entry (record { sound = given .sound; exact = given .exact; stick = c .before .kept-after .ensures .stick })
 
 crosses-run-requires : tie.Need-crosses-run-requires
 crosses-run-requires c κs =
@@ -40,8 +40,8 @@ returns c =
     let last = nextKept L t (a .e) in
     let end = at-end .kept-after .ensures in
     let p : c .before .before .vertex-at .result ≡ vertex L t (a .e) = c .before .before .vertex-at .ensures .0 in
-    let q : c .before .vertex-at2 .result ≡ vertex L t last = c .before .vertex-at2 .ensures .0 ∙ ap (vertex L t) (end .0) in
-    c .crosses-run .ensures ∙ (λ i. crossesRun L (p i) (q i) (a .e) (end .1 .0 i))
+    let q : c .before .vertex-at2 .result ≡ vertex L t last = c .before .vertex-at2 .ensures .0 ∙ ap (vertex L t) (end .kept) in
+    c .crosses-run .ensures ∙ (λ i. crossesRun L (p i) (q i) (a .e) (end .gap i))
     ∙ sym (gap-run L t (vertex L t (a .e)) (vertex L t last) (a .e))
 
 pub held-at-spec : {M : Type 1} → statement M
