@@ -1,4 +1,5 @@
--- `new_offset` meets its contract.
+-- `new_offset` meets its contract. The spread is not 0, as the neighbours lie on different sides, so the division is defined; its result is a
+-- byte since the new offset is inside. `sized` bounds each signed product.
 use mathlib.Core.Path.{_≡_, sym, ap, _∙_}
 use borrow.Author.Needs.{needs}
 use lib.IntN.{ℤ, pos, natAbs}

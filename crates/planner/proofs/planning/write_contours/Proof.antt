@@ -1,4 +1,5 @@
 -- `write_contours` meets its contract. The invariant: the items of the contours that are left, written from here, make the whole.
+-- Listing keeps it; the outputs stay as long as they were.
 use borrow.Author.Needs.{needs}
 use lib.ListN.{length}
 use Rattle.grid.specs.Layer.{layerOf}

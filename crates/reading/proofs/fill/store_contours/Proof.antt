@@ -1,4 +1,5 @@
 -- `store_contours` meets its contract. The invariant: taking the commands from here on, into the table as it is, gives the described table.
+-- Storing keeps it, contour by contour.
 use mathlib.Core.Path.{sym, _∙_}
 use native.Mathlib.Omega.{arith}
 use borrow.Author.Needs.{needs}

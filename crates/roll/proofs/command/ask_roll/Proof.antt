@@ -1,4 +1,5 @@
 -- `ask_roll` meets its contract. The invariant: the answer from here on is that of the whole roll.
+-- A command goes on by its length, or ends the loop with the answer at its place.
 use mathlib.Core.Logic.{inl, inr}
 use mathlib.Core.Path.{_≡_, _∙_}
 use Prim.Native.Nat.{_-_, _≤_}

@@ -1,4 +1,5 @@
 -- `passes_run` meets its contract. The invariant: the sticks that are left pass if all do.
+-- The laws are those of any test of the sticks that follow one; a run of n edges has n - 1 sticks between its ends.
 use mathlib.Core.Path.{sym, _∙_}
 use Prim.Native.Nat.{_-_}
 use native.Mathlib.Omega.{arith}

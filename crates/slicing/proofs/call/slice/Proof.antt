@@ -1,4 +1,5 @@
--- `slice` meets its contract.
+-- `slice` meets its contract. `command` and `long` say what the first test learns; each way out then cites the law of Answers for its case:
+-- no command, sides that do not fit, or a layer.
 use mathlib.Core.Path.{_≡_, sym, ap, _∙_}
 use mathlib.Core.Bool.{true}
 use mathlib.Core.List.{List}

@@ -1,4 +1,5 @@
--- `slice_in` meets its contract.
+-- `slice_in` meets its contract. `thinned`, `told` and `traced` are the places after thinning, where the answer of Trace is known, and after
+-- Trace; the buffers that a call leaves are its `last`.
 use mathlib.Core.Path.{ap, _∙_}
 use mathlib.Core.List.{List}
 use Prim.Native.Nat.{ℕ}
@@ -15,39 +16,45 @@ use Rattle.slicing.proofs.steps.slice_in.Tie as tie
 
 write-requires : tie.Need-write-requires
 write-requires c κs =
-    let start = c .before .before .before .before .before .before .before .before .before .before .before .before .before .before .before in
+    let thinned = c .before .before .before .before in
+    let told = thinned .before .before in
+    let traced = told .before .before .before .before in
+    let start = traced .before .before .before .before .before in
     let a = start .args in
-    let trace = c .before .before .before .before .before .before .before .before .before .before .trace in
-    let told = c .before .before .before .before .before .before .enum-told .given in
-    let thin = c .before .before .before .before .thin in
     let L = layerOf (sizeOf (a .w) (a .h)) (a .bitmap .now) in
-    let traced = traced-done L (trace .last .1 .1 .1 .0) (trace .result) (traceOf L (a .table .now)) (trace .ensures) (told .1) in
-    let after = after-done L (a .table .now) (trace .last .1 .1 .1 .0) (thin .last .1 .1 .1 .0) traced (thin .ensures) (start .pre .0) in
+    let done =
+    traced-done L (traced .trace .last .1 .1 .1 .0) (traced .trace .result) (traceOf L (a .table .now)) (traced .trace .ensures)
+    (told .enum-told .given .1) in
+    let after =
+    after-done L (a .table .now) (traced .trace .last .1 .1 .1 .0) (thinned .thin .last .1 .1 .1 .0) done (thinned .thin .ensures)
+    (start .pre .0) in
     (after .0, omega (arith, after .1, start .pre .1))
 
 returns : tie.Need-returns
 returns c =
     let put = c .before .before .before in
-    let a = put .before .before .before .before .before .before .before .before .before .before .before .before .before .before .before .args in
-    let trace = put .before .before .before .before .before .before .before .before .before .before .trace in
-    let told = put .before .before .before .before .before .before .enum-told .given in
-    let thin = put .before .before .before .before .thin in
+    let thinned = put .before .before .before .before in
+    let told = thinned .before .before in
+    let traced = told .before .before .before .before in
+    let a = traced .before .before .before .before .before .args in
     let L = layerOf (sizeOf (a .w) (a .h)) (a .bitmap .now) in
     c .before .before .write .ensures
-    ∙ ap (λ (t : List ℕ). stored (a .output .now) (sheetOf L t)) (thin .ensures)
+    ∙ ap (λ (t : List ℕ). stored (a .output .now) (sheetOf L t)) (thinned .thin .ensures)
     ∙ ap (stored (a .output .now))
-    (bytes-done L (trace .last .1 .1 .1 .0) (trace .result) (traceOf L (a .table .now)) (trace .ensures) (told .1))
+    (bytes-done L (traced .trace .last .1 .1 .1 .0) (traced .trace .result) (traceOf L (a .table .now)) (traced .trace .ensures)
+    (told .enum-told .given .1))
 
 returns-2 : tie.Need-returns-2
 returns-2 c =
-    let put = c .before .before .before in
-    let a = put .before .before .before .before .before .before .before .before .before .before .before .args in
-    let trace = put .before .before .before .before .before .before .trace in
-    let told = put .before .before .traced .given in
+    let told = c .before .before .before .before .before in
+    let traced = told .before .before .before .before in
+    let a = traced .before .before .before .before .before .args in
+    let refused = told .traced .given in
     let L = layerOf (sizeOf (a .w) (a .h)) (a .bitmap .now) in
     c .before .before .refuse .ensures
     ∙ ap (stored (a .output .now))
-    (bytes-refused L (trace .last .1 .1 .1 .0) (trace .result) (traceOf L (a .table .now)) (trace .ensures) (told .0 .0) (told .0 .1 .0) (told .1))
+    (bytes-refused L (traced .trace .last .1 .1 .1 .0) (traced .trace .result) (traceOf L (a .table .now)) (traced .trace .ensures)
+    (refused .0 .0) (refused .0 .1 .0) (refused .1))
 
 pub slice-in-spec : {M : Type 1} → statement M
 slice-in-spec =

@@ -1,4 +1,5 @@
 -- `smooth_until` meets its contract. The invariant: the passes that the limit still allows, from here, give the result of the whole.
+-- Limits has one more pass, the settled end and the end by the limit.
 use mathlib.Core.Path.{sym, ap, _∙_}
 use Prim.Native.Nat.{_-_}
 use native.Mathlib.Omega.{arith}
