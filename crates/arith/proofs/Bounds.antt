@@ -1,4 +1,4 @@
--- Signed machine integers that stay in range. `Sized m` reads a machine term m, where `toZ w (ofZ w ..)` stands round each result, as an expression on
+-- Signed machine integers that stay in range. `Bounded m` reads a machine term m, where `toZ w (ofZ w ..)` stands round each result, as an expression on
 -- integers with a bound on its size; whether each result fits its width computes at literal bounds. So a need of the code is one line:
 -- `in-range (search sized depth 9) tt`, `exact (search sized depth 9) tt`, `within (search sized depth 9) tt`.
 use mathlib.Core.Path.{_≡_, refl, sym, ap, ap₂, _∙_, subst}
@@ -38,18 +38,18 @@ mag-le (negsuc n) = omega arith
 
 -- a number z with a hypothesis natAbs z ≤ B, also the bare bits of a local, `toZ w s`; a literal; an operation; a result that is written and read back; an
 -- unsigned number with a hypothesis n ≤ B that is cast. The search takes hypotheses that a `let` binds first, and then the fields of `c`
-pub data Sized : ℤ → Type 0 where
-  s-arg : (z : ℤ) (B : ℕ) → natAbs z ≤ B → Sized z
-  s-pos : (n : ℕ) → Sized (pos n)
-  s-negsuc : (n : ℕ) → Sized (negsuc n)
-  s-neg : {x : ℤ} → Sized x → Sized (negℤ x)
-  s-add : {x y : ℤ} → Sized x → Sized y → Sized (x +ℤ y)
-  s-mul : {x y : ℤ} → Sized x → Sized y → Sized (x *ℤ y)
-  s-quot : {x y : ℤ} → Sized x → Sized y → Sized (quotZ x y)
-  s-back : (w : Width) {x : ℤ} → Sized x → Sized (toZ w (ofZ w x))
-  s-cast : (w : Width) (n B : ℕ) → n ≤ B → Sized (toZ w n)
+pub data Bounded : ℤ → Type 0 where
+  s-arg : (z : ℤ) (B : ℕ) → natAbs z ≤ B → Bounded z
+  s-pos : (n : ℕ) → Bounded (pos n)
+  s-negsuc : (n : ℕ) → Bounded (negsuc n)
+  s-neg : {x : ℤ} → Bounded x → Bounded (negℤ x)
+  s-add : {x y : ℤ} → Bounded x → Bounded y → Bounded (x +ℤ y)
+  s-mul : {x y : ℤ} → Bounded x → Bounded y → Bounded (x *ℤ y)
+  s-quot : {x y : ℤ} → Bounded x → Bounded y → Bounded (quotZ x y)
+  s-back : (w : Width) {x : ℤ} → Bounded x → Bounded (toZ w (ofZ w x))
+  s-cast : (w : Width) (n B : ℕ) → n ≤ B → Bounded (toZ w n)
 
-abbrev pub bound : {z : ℤ} → Sized z → ℕ
+abbrev pub bound : {z : ℤ} → Bounded z → ℕ
 bound (s-arg z B h) = B
 bound (s-pos n) = n
 bound (s-negsuc n) = suc n
@@ -61,7 +61,7 @@ bound (s-back w s) = bound s
 bound (s-cast w n B h) = B
 
 -- the expression: m, with nothing written or read back
-abbrev pub pure : {z : ℤ} → Sized z → ℤ
+abbrev pub pure : {z : ℤ} → Bounded z → ℤ
 pure (s-arg z B h) = z
 pure (s-pos n) = pos n
 pure (s-negsuc n) = negsuc n
@@ -73,7 +73,7 @@ pure (s-back w s) = pure s
 pure (s-cast w n B h) = pos n
 
 -- whether each number that was written fits
-abbrev pub ok : {z : ℤ} → Sized z → Bool
+abbrev pub ok : {z : ℤ} → Bounded z → Bool
 ok (s-arg z B h) = true
 ok (s-pos n) = true
 ok (s-negsuc n) = true
@@ -84,7 +84,7 @@ ok (s-quot s t) = ok s && ok t
 ok (s-back w s) = ok s && ltb (bound s) (2 ^ hbits w)
 ok (s-cast w n B h) = ltb B (2 ^ hbits w)
 
-small : {z : ℤ} (s : Sized z) → natAbs (pure s) ≤ bound s
+small : {z : ℤ} (s : Bounded z) → natAbs (pure s) ≤ bound s
 small (s-arg z B h) = h
 small (s-pos n) = omega arith
 small (s-negsuc n) = omega arith
@@ -95,11 +95,11 @@ small (s-quot s t) = omega (arith, natAbs-quot (pure s) (pure t), small s)
 small (s-back w s) = small s
 small (s-cast w n B h) = h
 
-pure-fits : {z : ℤ} (w : Width) (s : Sized z) → T (ltb (bound s) (2 ^ hbits w)) → SFits w (pure s)
+pure-fits : {z : ℤ} (w : Width) (s : Bounded z) → T (ltb (bound s) (2 ^ hbits w)) → SFits w (pure s)
 pure-fits w s t = record { sfits = omega (arith, mag-le (pure s), small s, ltb→lt (bound s) (2 ^ hbits w) t) }
 
 -- m is the expression
-pub exact : {z : ℤ} (s : Sized z) → T (ok s) → z ≡ pure s
+pub exact : {z : ℤ} (s : Bounded z) → T (ok s) → z ≡ pure s
 exact (s-arg z B h) t = refl
 exact (s-pos n) t = refl
 exact (s-negsuc n) t = refl
@@ -112,12 +112,12 @@ exact (s-back w s) t =
 exact (s-cast w n B h) t = toZ-pos w (omega (arith, ltb→lt B (2 ^ hbits w) t))
 
 -- m fits the width
-pub in-range : {w : Width} {z : ℤ} (s : Sized z) → T (ok s && ltb (bound s) (2 ^ hbits w)) → SFits w z
+pub in-range : {w : Width} {z : ℤ} (s : Bounded z) → T (ok s && ltb (bound s) (2 ^ hbits w)) → SFits w z
 in-range {w} s t = let e = and-yes (ok s) (ltb (bound s) (2 ^ hbits w)) t in subst (SFits w) (sym (exact s (e .0))) (pure-fits w s (e .1))
 
 -- a bound natAbs m ≤ C, as a callee asks for it
 pub data Within : Type 0 → Type 1 where
-  s-size : (z : ℤ) (C : ℕ) → Sized z → Within (natAbs z ≤ C)
+  s-size : (z : ℤ) (C : ℕ) → Bounded z → Within (natAbs z ≤ C)
 
 abbrev pub holds : {P : Type 0} → Within P → Bool
 holds (s-size z C s) = ok s && leb (bound s) C

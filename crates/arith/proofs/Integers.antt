@@ -1,6 +1,7 @@
--- The integers of `lib.IntN`, opened up for `omega`, which reads naturals alone: z is up z − dn z, `Diff z` writes z as any difference of two naturals,
--- along sums and products, and `Reads P` says a statement on integers as one on naturals. `omega arithℤ` proves what is linear in integers as they stand,
--- `viaℕ (search (ints, at x, at y)) (omega arith)` what has sums and products. Then the laws that `lib.IntN` and `lib.Signed` lack.
+-- The integers of `lib.IntN`, opened up for `omega`, which reads naturals alone: z is positivePart z − negativePart z, `Diff z` writes z as any
+-- difference of two naturals, along sums and products, and `Reads P` says a statement on integers as one on naturals. `omega arithℤ` proves what
+-- is linear in integers as they stand, `viaℕ (search (ints, at x, at y)) (omega arith)` what has sums and products. Then the laws that `lib.IntN`
+-- and `lib.Signed` lack.
 use mathlib.Core.Path.{_≡_, refl, sym, ap, subst}
 use mathlib.Core.Logic.{_⊎_, inl, inr}
 use mathlib.Core.Bool.{Bool, true, false, not, cond}
@@ -9,7 +10,7 @@ use native.Mathlib.Omega.{arith}
 use lib.Dec.{T, ltb, leb→le, le→leb, nleb→lt, ltb→lt, lt→ltb, nltb→le}
 use lib.IntN.{ℤ, pos, negsuc, negℤ, natAbs, subℕ, _+ℤ_, _-ℤ_, _*ℤ_}
 use lib.Signed.{leZ, ltZ, leZ-yes, ltZ-yes, ltZ-no, clashℤ, _≤ℤ_, _<ℤ_}
-use Rattle.arith.specs.Integers.{up, dn}
+use Rattle.arith.specs.Integers.{positivePart, negativePart}
 
 -- ---- the operations and the orders, on these two parts
 
@@ -17,8 +18,8 @@ cond-ind : (c : Bool) (x y : ℤ) (P : ℤ → Type 0) → (T c → P x) → (T 
 cond-ind true x y P f g = f tt
 cond-ind false x y P f g = g tt
 
-sub-parts : (a b : ℕ) → up (subℕ a b) + b ≡ a + dn (subℕ a b)
-sub-parts a b = cond-ind (ltb a b) (negsuc (b - suc a)) (pos (a - b)) (λ z. up z + b ≡ a + dn z) (λ t. less (ltb→lt a b t)) (λ t. more (nltb→le a b t))
+sub-parts : (a b : ℕ) → positivePart (subℕ a b) + b ≡ a + negativePart (subℕ a b)
+sub-parts a b = cond-ind (ltb a b) (negsuc (b - suc a)) (pos (a - b)) (λ z. positivePart z + b ≡ a + negativePart z) (λ t. less (ltb→lt a b t)) (λ t. more (nltb→le a b t))
   where
     less : a < b → 0 + b ≡ a + suc (b - suc a)
     less h = omega arith
@@ -26,55 +27,55 @@ sub-parts a b = cond-ind (ltb a b) (negsuc (b - suc a)) (pos (a - b)) (λ z. up 
     more : b ≤ a → a - b + b ≡ a + 0
     more h = omega arith
 
-pub add-parts : (x y : ℤ) → up (x +ℤ y) + (dn x + dn y) ≡ up x + up y + dn (x +ℤ y)
+pub add-parts : (x y : ℤ) → positivePart (x +ℤ y) + (negativePart x + negativePart y) ≡ positivePart x + positivePart y + negativePart (x +ℤ y)
 add-parts (pos a) (pos b) = omega arith
 add-parts (pos a) (negsuc b) = omega (arith, sub-parts a (suc b))
 add-parts (negsuc a) (pos b) = omega (arith, sub-parts b (suc a))
 add-parts (negsuc a) (negsuc b) = omega arith
 
-pub neg-parts : (z : ℤ) → (up (negℤ z) ≡ dn z) × (dn (negℤ z) ≡ up z)
+pub neg-parts : (z : ℤ) → (positivePart (negℤ z) ≡ negativePart z) × (negativePart (negℤ z) ≡ positivePart z)
 neg-parts (pos zero) = (refl, refl)
 neg-parts (pos (suc n)) = (refl, refl)
 neg-parts (negsuc n) = (refl, refl)
 
-pub mul-parts : (x y : ℤ) → up (x *ℤ y) + (up x * dn y + dn x * up y) ≡ up x * up y + dn x * dn y + dn (x *ℤ y)
+pub mul-parts : (x y : ℤ) → positivePart (x *ℤ y) + (positivePart x * negativePart y + negativePart x * positivePart y) ≡ positivePart x * positivePart y + negativePart x * negativePart y + negativePart (x *ℤ y)
 mul-parts (pos a) (pos b) = omega arith
 mul-parts (pos a) (negsuc b) = omega (arith, neg-parts (pos (a * suc b)))
 mul-parts (negsuc a) (pos b) = omega (arith, neg-parts (pos (suc a * b)))
 mul-parts (negsuc a) (negsuc b) = omega arith
 
-pub natAbs-parts : (z : ℤ) → (natAbs z ≡ up z + dn z) × (min (up z) (dn z) ≡ 0)
+pub natAbs-parts : (z : ℤ) → (natAbs z ≡ positivePart z + negativePart z) × (min (positivePart z) (negativePart z) ≡ 0)
 natAbs-parts (pos n) = omega arith
 natAbs-parts (negsuc n) = omega arith
 
-pub le-parts : {x y : ℤ} → x ≤ℤ y → up x + dn y ≤ up y + dn x
+pub le-parts : {x y : ℤ} → x ≤ℤ y → positivePart x + negativePart y ≤ positivePart y + negativePart x
 le-parts {x = pos a} {y = pos b} h = omega (arith, leb→le a b (h .le))
 le-parts {x = pos a} {y = negsuc b} h = absurd (h .le)
 le-parts {x = negsuc a} {y = pos b} h = omega arith
 le-parts {x = negsuc a} {y = negsuc b} h = omega (arith, leb→le b a (h .le))
 
-pub parts-le : (x y : ℤ) → up x + dn y ≤ up y + dn x → x ≤ℤ y
+pub parts-le : (x y : ℤ) → positivePart x + negativePart y ≤ positivePart y + negativePart x → x ≤ℤ y
 parts-le (pos a) (pos b) h = record { le = le→leb a b (omega arith) }
 parts-le (pos a) (negsuc b) h = absurd (omega arith)
 parts-le (negsuc a) (pos b) h = record { le = tt }
 parts-le (negsuc a) (negsuc b) h = record { le = le→leb b a (omega arith) }
 
-pub lt-parts : {x y : ℤ} → x <ℤ y → up x + dn y < up y + dn x
+pub lt-parts : {x y : ℤ} → x <ℤ y → positivePart x + negativePart y < positivePart y + negativePart x
 lt-parts {x = pos a} {y = pos b} h = omega (arith, ltb→lt a b (h .lt))
 lt-parts {x = pos a} {y = negsuc b} h = absurd (h .lt)
 lt-parts {x = negsuc a} {y = pos b} h = omega arith
 lt-parts {x = negsuc a} {y = negsuc b} h = omega (arith, ltb→lt b a (h .lt))
 
-pub parts-lt : (x y : ℤ) → up x + dn y < up y + dn x → x <ℤ y
+pub parts-lt : (x y : ℤ) → positivePart x + negativePart y < positivePart y + negativePart x → x <ℤ y
 parts-lt (pos a) (pos b) h = record { lt = lt→ltb a b (omega arith) }
 parts-lt (pos a) (negsuc b) h = absurd (omega arith)
 parts-lt (negsuc a) (pos b) h = record { lt = tt }
 parts-lt (negsuc a) (negsuc b) h = record { lt = lt→ltb b a (omega arith) }
 
-pub eq-parts : {x y : ℤ} → x ≡ y → up x + dn y ≡ up y + dn x
-eq-parts {x} {y} e = omega (arith, ap up e, ap dn e)
+pub eq-parts : {x y : ℤ} → x ≡ y → positivePart x + negativePart y ≡ positivePart y + negativePart x
+eq-parts {x} {y} e = omega (arith, ap positivePart e, ap negativePart e)
 
-pub parts-eq : (x y : ℤ) → up x + dn y ≡ up y + dn x → x ≡ y
+pub parts-eq : (x y : ℤ) → positivePart x + negativePart y ≡ positivePart y + negativePart x → x ≡ y
 parts-eq (pos a) (pos b) e = ap pos (omega arith)
 parts-eq (pos a) (negsuc b) e = absurd (omega arith)
 parts-eq (negsuc a) (pos b) e = absurd (omega arith)
@@ -89,16 +90,16 @@ leZ-no {x = negsuc a} {y = negsuc b} t = record { lt = lt→ltb a b (nleb→lt b
 
 -- the four for a test as a branch of the code leaves it
 module _ (x y : ℤ) where
-  pub leZ-true : leZ x y ≡ true → up x + dn y ≤ up y + dn x
+  pub leZ-true : leZ x y ≡ true → positivePart x + negativePart y ≤ positivePart y + negativePart x
   leZ-true e = le-parts (leZ-yes {a = x} {b = y} (subst T (sym e) tt))
 
-  pub leZ-false : leZ x y ≡ false → up y + dn x < up x + dn y
+  pub leZ-false : leZ x y ≡ false → positivePart y + negativePart x < positivePart x + negativePart y
   leZ-false e = lt-parts (leZ-no {x = x} {y = y} (subst (λ b. T (not b)) (sym e) tt))
 
-  pub ltZ-true : ltZ x y ≡ true → up x + dn y < up y + dn x
+  pub ltZ-true : ltZ x y ≡ true → positivePart x + negativePart y < positivePart y + negativePart x
   ltZ-true e = lt-parts (ltZ-yes {a = x} {b = y} (subst T (sym e) tt))
 
-  pub ltZ-false : ltZ x y ≡ false → up y + dn x ≤ up x + dn y
+  pub ltZ-false : ltZ x y ≡ false → positivePart y + negativePart x ≤ positivePart x + negativePart y
   ltZ-false e = le-parts (ltZ-no {a = x} {b = y} (subst (λ b. T (not b)) (sym e) tt))
 
 -- for `omega`: orders, equations and tests between integers that are taken as they stand. With a sum in them: `omega (arithℤ, add-parts x y)`
@@ -107,7 +108,7 @@ pub ruleset arithℤ = (arith, le-parts, lt-parts, eq-parts, leZ-true, leZ-false
 -- ---- z as a difference of two naturals
 
 pub data Diff (z : ℤ) : Type 0 where
-  diff : (p n : ℕ) → up z + n ≡ p + dn z → Diff z
+  diff : (p n : ℕ) → positivePart z + n ≡ p + negativePart z → Diff z
 
 abbrev pub plus : {z : ℤ} → Diff z → ℕ
 plus (diff p n e) = p
@@ -115,12 +116,12 @@ plus (diff p n e) = p
 abbrev pub minus : {z : ℤ} → Diff z → ℕ
 minus (diff p n e) = n
 
-diff-is : {z : ℤ} (d : Diff z) → up z + minus d ≡ plus d + dn z
+diff-is : {z : ℤ} (d : Diff z) → positivePart z + minus d ≡ plus d + negativePart z
 diff-is (diff p n e) = e
 
 -- any integer, and the two literals
 abbrev pub at : (z : ℤ) → Diff z
-at z = diff (up z) (dn z) refl
+at z = diff (positivePart z) (negativePart z) refl
 
 abbrev pub d-pos : (n : ℕ) → Diff (pos n)
 d-pos n = at (pos n)
@@ -129,11 +130,11 @@ abbrev pub d-negsuc : (n : ℕ) → Diff (negsuc n)
 d-negsuc n = at (negsuc n)
 
 module _ {x y : ℤ} (d : Diff x) (e : Diff y) where
-  pub d-add-is : up (x +ℤ y) + (minus d + minus e) ≡ plus d + plus e + dn (x +ℤ y)
+  pub d-add-is : positivePart (x +ℤ y) + (minus d + minus e) ≡ plus d + plus e + negativePart (x +ℤ y)
   d-add-is = omega (arith, add-parts x y, diff-is d, diff-is e)
 
-  pub d-mul-is : up (x *ℤ y) + (plus d * minus e + minus d * plus e) ≡ plus d * plus e + minus d * minus e + dn (x *ℤ y)
-  d-mul-is = omega (arith, mul-parts x y, ap (λ k. k * up y) (diff-is d), ap (λ k. k * dn y) (diff-is d), ap (λ k. k * plus d) (diff-is e), ap (λ k. k * minus d) (diff-is e))
+  pub d-mul-is : positivePart (x *ℤ y) + (plus d * minus e + minus d * plus e) ≡ plus d * plus e + minus d * minus e + negativePart (x *ℤ y)
+  d-mul-is = omega (arith, mul-parts x y, ap (λ k. k * positivePart y) (diff-is d), ap (λ k. k * negativePart y) (diff-is d), ap (λ k. k * plus d) (diff-is e), ap (λ k. k * minus d) (diff-is e))
 
   abbrev pub d-add : Diff (x +ℤ y)
   d-add = diff (plus d + plus e) (minus d + minus e) d-add-is
@@ -141,7 +142,7 @@ module _ {x y : ℤ} (d : Diff x) (e : Diff y) where
   abbrev pub d-mul : Diff (x *ℤ y)
   d-mul = diff (plus d * plus e + minus d * minus e) (plus d * minus e + minus d * plus e) d-mul-is
 
-pub d-neg-is : {z : ℤ} (d : Diff z) → up (negℤ z) + plus d ≡ minus d + dn (negℤ z)
+pub d-neg-is : {z : ℤ} (d : Diff z) → positivePart (negℤ z) + plus d ≡ minus d + negativePart (negℤ z)
 d-neg-is {z} d = omega (arith, neg-parts z, diff-is d)
 
 abbrev pub d-neg : {z : ℤ} → Diff z → Diff (negℤ z)

@@ -6,7 +6,7 @@ use native.Mathlib.Omega.{arith}
 use lib.IntN.{ℤ, pos, negsuc, _+ℤ_, _*ℤ_}
 use lib.Signed.{_≤ℤ_, _<ℤ_, ≤ℤ-refl}
 use Rattle.arith.proofs.Integers.{ints, at, viaℕ, toℕ, arithℤ, add-parts, ≤ℤ-antisymm, *ℤ-cancel-<}
-use Rattle.arith.specs.Nearest.{floorDiv, nearest, Floor, Near}
+use Rattle.arith.specs.Nearest.{floorDiv, nearest, Floor, IsNearest}
 
 -- ---- rounding down
 
@@ -33,11 +33,11 @@ floor-only {t} h f = ≤ℤ-antisymm (floor-mono f (floor-is t h) (≤ℤ-refl t
 -- ---- rounding to the nearest
 
 -- the bounds fix it: it meets them, and nothing else does
-pub nearest-is : (n : ℤ) {d : ℕ} → 0 < d → Near n d (nearest n d)
+pub nearest-is : (n : ℤ) {d : ℕ} → 0 < d → IsNearest n d (nearest n d)
 unfolding nearest
 nearest-is n {d} h = floor-is (pos 2 *ℤ n +ℤ pos d) (omega arith)
 
-pub nearest-only : (n : ℤ) {d : ℕ} {z : ℤ} → 0 < d → Near n d z → z ≡ nearest n d
+pub nearest-only : (n : ℤ) {d : ℕ} {z : ℤ} → 0 < d → IsNearest n d z → z ≡ nearest n d
 unfolding nearest
 nearest-only n h f = floor-only (omega arith) f
 

@@ -18,5 +18,5 @@ pub record Floor (t : ℤ) (m : ℕ) (z : ℤ) : Type 0 where
   pub high : t <ℤ (pos m *ℤ (z +ℤ pos 1))
 
 -- z is n / d, rounded to the nearest, a half upward
-abbrev pub Near : ℤ → ℕ → ℤ → Type 0
-Near n d z = Floor (pos 2 *ℤ n +ℤ pos d) (2 * d) z
+abbrev pub IsNearest : ℤ → ℕ → ℤ → Type 0
+IsNearest n d z = Floor (pos 2 *ℤ n +ℤ pos d) (2 * d) z

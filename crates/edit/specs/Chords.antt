@@ -82,18 +82,18 @@ storedIf answer t t′ = ifAllYes answer (λ q place. t) t′
 -- What the functions of this crate are given
 
 -- a chord on a sound layer
-abbrev pub Laid : Layer → Chord → Type 0
-Laid L c = ChordAt L (c .from) (c .to) (c .stick)
+abbrev pub ChordOn : Layer → Chord → Type 0
+ChordOn L c = ChordAt L (c .from) (c .to) (c .stick)
 
 -- it, or the two of a slide, with a table of the layer's length
 pub record Measurable (L : Layer) (t : List ℕ) (c : Chord) : Type 0 where
   pub exact : length t ≡ edgeCount (L .size)
-  pub laid : Laid L c
+  pub laid : ChordOn L c
 
 pub record BothMeasurable (L : Layer) (t : List ℕ) (a b : Chord) : Type 0 where
   pub exact : length t ≡ edgeCount (L .size)
-  pub first : Laid L a
-  pub second : Laid L b
+  pub first : ChordOn L a
+  pub second : ChordOn L b
 
 -- a kept vertex of a layer that passes questions 1 to 7, and an offset to slide it to
 pub record Editable (L : Layer) (t : List ℕ) (e : Edge) : Type 0 where

@@ -14,7 +14,7 @@ use table::offset_in;
 ghost use mathlib.Core.Path.{_≡_};
 ghost use mathlib.Core.Bool.{_&&_};
 ghost use Rattle.grid.specs.Layer.{layerOf};
-ghost use Rattle.edit.specs.Chords.{crossesChord, withinChord, slidInto, slidOut, joinedOver, Laid, Measurable, BothMeasurable, Editable, Slidable};
+ghost use Rattle.edit.specs.Chords.{crossesChord, withinChord, slidInto, slidOut, joinedOver, ChordOn, Measurable, BothMeasurable, Editable, Slidable};
 
 // A drawn edge: its two ends, the stick where it starts, and how many removed sticks it passes after that.
 pub struct Chord {
@@ -26,7 +26,7 @@ pub struct Chord {
 
 // Question 11 of a redrawn edge: it crosses every stick that it passes.
 pub fn crosses_all(size: Size, bitmap: &[u8], c: Chord) -> bool
-    requires { ⌜ Laid (layerOf size (now bitmap)) c ⌝ }
+    requires { ⌜ ChordOn (layerOf size (now bitmap)) c ⌝ }
     ensures { λ r. ⌜ r ≡ crossesChord (layerOf size (now (bitmap .entry))) c ⌝ }
 {
     crosses_run(size, bitmap, c.from, c.to, c.stick, c.gap)
@@ -51,8 +51,8 @@ pub fn within_all(size: Size, bitmap: &[u8], table: &[u16], t: u8, c: Chord) -> 
 
 // The same of the two edges that a slide redraws.
 pub fn crosses_both(size: Size, bitmap: &[u8], into: Chord, out: Chord) -> bool
-    requires { ⌜ Laid (layerOf size (now bitmap)) into ⌝ }
-    requires { ⌜ Laid (layerOf size (now bitmap)) out ⌝ }
+    requires { ⌜ ChordOn (layerOf size (now bitmap)) into ⌝ }
+    requires { ⌜ ChordOn (layerOf size (now bitmap)) out ⌝ }
     ensures { λ r. ⌜ r ≡ (crossesChord (layerOf size (now (bitmap .entry))) into && crossesChord (layerOf size (now (bitmap .entry))) out) ⌝ }
 {
     if !crosses_all(size, bitmap, into) {
@@ -75,7 +75,7 @@ pub fn within_both(size: Size, bitmap: &[u8], table: &[u16], t: u8, into: Chord,
 pub fn slid_into(size: Size, bitmap: &[u8], table: &[u16], e: Edge, offset: u8) -> Chord
     requires { ⌜ Slidable (layerOf size (now bitmap)) (now table) e offset ⌝ }
     ensures { λ r. ⌜ r ≡ slidInto (layerOf size (now (bitmap .entry))) (now (table .entry)) e offset ⌝ }
-    ensures { λ r. ⌜ Laid (layerOf size (now (bitmap .entry))) r ⌝ }
+    ensures { λ r. ⌜ ChordOn (layerOf size (now (bitmap .entry))) r ⌝ }
 {
     let before = kept_before(size, bitmap, table, e);
     let stick = before.stick;
@@ -91,7 +91,7 @@ pub fn slid_into(size: Size, bitmap: &[u8], table: &[u16], e: Edge, offset: u8) 
 pub fn slid_out(size: Size, bitmap: &[u8], table: &[u16], e: Edge, offset: u8) -> Chord
     requires { ⌜ Slidable (layerOf size (now bitmap)) (now table) e offset ⌝ }
     ensures { λ r. ⌜ r ≡ slidOut (layerOf size (now (bitmap .entry))) (now (table .entry)) e offset ⌝ }
-    ensures { λ r. ⌜ Laid (layerOf size (now (bitmap .entry))) r ⌝ }
+    ensures { λ r. ⌜ ChordOn (layerOf size (now (bitmap .entry))) r ⌝ }
 {
     let after = kept_after(size, bitmap, table, e);
     Chord {
@@ -106,7 +106,7 @@ pub fn slid_out(size: Size, bitmap: &[u8], table: &[u16], e: Edge, offset: u8) -
 pub fn joined(size: Size, bitmap: &[u8], table: &[u16], e: Edge) -> Chord
     requires { ⌜ Editable (layerOf size (now bitmap)) (now table) e ⌝ }
     ensures { λ r. ⌜ r ≡ joinedOver (layerOf size (now (bitmap .entry))) (now (table .entry)) e ⌝ }
-    ensures { λ r. ⌜ Laid (layerOf size (now (bitmap .entry))) r ⌝ }
+    ensures { λ r. ⌜ ChordOn (layerOf size (now (bitmap .entry))) r ⌝ }
 {
     let before = kept_before(size, bitmap, table, e);
     let after = kept_after(size, bitmap, table, e);

@@ -13,7 +13,7 @@ use Rattle.arith.specs.Booleans.{asNumber}
 use Rattle.arith.proofs.Booleans.{both-sides, and-split}
 use Rattle.grid.specs.declared.layer.Size.{Size}
 use Rattle.grid.specs.declared.edge.Edge.{Edge}
-use Rattle.sheet.specs.Commands.{bytesOf, kindOf, stickBytes, sizeCommand, contourCommand}
+use Rattle.sheet.specs.Commands.{twoBytes, kindOf, stickBytes, sizeCommand, contourCommand}
 use Rattle.formed.specs.Expected.{standsAt, vertexAt}
 
 getD-any : (l : List ℕ) (i d d′ : ℕ) → i < length l → getD l i d ≡ getD l i d′
@@ -60,11 +60,11 @@ module _ (s : List ℕ) where
       ∙ sym (and-assoc (eqb (getD s i 256) b) (standsAt s (i + 1) l) (standsAt s (i + 1 + length l) m)))
 
   -- two numbers, at i
-  pub numbers-no : (i m n : ℕ) → standsAt s i (bytesOf m) ≡ false → false ≡ standsAt s i (bytesOf m ++ bytesOf n)
-  numbers-no i m n e = sym (stands-append (bytesOf m) (bytesOf n) i ∙ ap (λ (x : Bool). x && standsAt s (i + 2) (bytesOf n)) e)
+  pub numbers-no : (i m n : ℕ) → standsAt s i (twoBytes m) ≡ false → false ≡ standsAt s i (twoBytes m ++ twoBytes n)
+  numbers-no i m n e = sym (stands-append (twoBytes m) (twoBytes n) i ∙ ap (λ (x : Bool). x && standsAt s (i + 2) (twoBytes n)) e)
 
-  pub numbers-yes : (i m n : ℕ) → standsAt s i (bytesOf m) ≡ true → standsAt s (i + 2) (bytesOf n) ≡ standsAt s i (bytesOf m ++ bytesOf n)
-  numbers-yes i m n e = sym (stands-append (bytesOf m) (bytesOf n) i ∙ ap (λ (x : Bool). x && standsAt s (i + 2) (bytesOf n)) e)
+  pub numbers-yes : (i m n : ℕ) → standsAt s i (twoBytes m) ≡ true → standsAt s (i + 2) (twoBytes n) ≡ standsAt s i (twoBytes m ++ twoBytes n)
+  numbers-yes i m n e = sym (stands-append (twoBytes m) (twoBytes n) i ∙ ap (λ (x : Bool). x && standsAt s (i + 2) (twoBytes n)) e)
 
   -- what stands ends within the sheet
   byte-within : (i b : ℕ) → b < 256 → eqb (getD s i 256) b ≡ true → i < length s
@@ -91,14 +91,14 @@ module _ (s : List ℕ) where
       stands-room (contourCommand f) i (contour-bytes f) (omega (arith, byte-within i 0x43 (omega arith) letter)) e
 
   pub contour-rest : (i : ℕ) (f : Edge) → i + 6 ≤ length s → getD s i 0 ≡ 0x43 → getD s (i + 1) 0 ≡ kindOf (f .vertical)
-      → standsAt s (i + 2) (bytesOf (f .column) ++ bytesOf (f .row)) ≡ standsAt s i (contourCommand f)
+      → standsAt s (i + 2) (twoBytes (f .column) ++ twoBytes (f .row)) ≡ standsAt s i (contourCommand f)
   contour-rest i f room letter kind =
       let z : i + 2 ≡ i + 1 + 1 = omega arith in
-      rw z (stands-yes (i + 1) (kindOf (f .vertical)) (bytesOf (f .column) ++ bytesOf (f .row)) (omega arith) (eq-eqb _ _ kind)
+      rw z (stands-yes (i + 1) (kindOf (f .vertical)) (twoBytes (f .column) ++ twoBytes (f .row)) (omega arith) (eq-eqb _ _ kind)
       ∙ stands-yes i 0x43 (stickBytes f) (omega arith) (eq-eqb _ _ letter))
 
-  pub contour-last : (i : ℕ) (f : Edge) → standsAt s (i + 2) (bytesOf (f .column)) ≡ true
-      → standsAt s (i + 4) (bytesOf (f .row)) ≡ standsAt s (i + 2) (bytesOf (f .column) ++ bytesOf (f .row))
+  pub contour-last : (i : ℕ) (f : Edge) → standsAt s (i + 2) (twoBytes (f .column)) ≡ true
+      → standsAt s (i + 4) (twoBytes (f .row)) ≡ standsAt s (i + 2) (twoBytes (f .column) ++ twoBytes (f .row))
   contour-last i f e =
       let z : i + 4 ≡ i + 2 + 2 = omega arith in
       rw z (numbers-yes (i + 2) (f .column) (f .row) e)

@@ -8,7 +8,7 @@ use sheet::kind_of;
 ghost use mathlib.Core.Path.{_≡_};
 ghost use Prim.Native.Nat.{_+_, _≤_, _<_};
 ghost use lib.ListN.{length};
-ghost use Rattle.sheet.specs.Commands.{bytesOf, sizeCommand, contourCommand, endCommand};
+ghost use Rattle.sheet.specs.Commands.{twoBytes, sizeCommand, contourCommand, endCommand};
 ghost use Rattle.formed.specs.Expected.{standsAt, vertexAt};
 
 fn widen(x: u8) -> usize
@@ -20,7 +20,7 @@ fn widen(x: u8) -> usize
 // Whether the two bytes at i are n, low byte first.
 fn has_number(sheet: &[u8], i: usize, n: usize) -> bool
     requires { ⌜ i + 2 ≤ length (now sheet) ⌝ }
-    ensures { λ r. ⌜ r ≡ standsAt (now (sheet .entry)) i (bytesOf n) ⌝ }
+    ensures { λ r. ⌜ r ≡ standsAt (now (sheet .entry)) i (twoBytes n) ⌝ }
 {
     if widen(sheet[i]) != n % 256 {
         return false;

@@ -50,9 +50,9 @@ pub data Opening : Type 0 where
   byTrace : Opening
   bySheet : Sheet → Opening
 
-abbrev pub Accepted : Layer → List ℕ → Opening → Type 0
-Accepted L t byTrace = traceOf L t .refusal ≡ 0
-Accepted L t (bySheet sheet) = readOf L t (sheet .bytes) .refusal ≡ 0
+abbrev pub OpeningAccepted : Layer → List ℕ → Opening → Type 0
+OpeningAccepted L t byTrace = traceOf L t .refusal ≡ 0
+OpeningAccepted L t (bySheet sheet) = readOf L t (sheet .bytes) .refusal ≡ 0
 
 abbrev pub opened : Layer → List ℕ → Opening → List ℕ
 opened L t byTrace = traceOf L t .table
@@ -61,5 +61,5 @@ opened L t (bySheet sheet) = readOf L t (sheet .bytes) .table
 -- Demand 3: after every list of calls the layer is faithful, that is, its contours are closed and apart, and pass between two adjacent
 -- samples once where these differ and never where they agree. proofs/Guarantee.antt proves it.
 abbrev pub Guarantee : Type 0
-Guarantee = (L : Layer) (t : List ℕ) (opening : Opening) → Accepted L t opening → (calls : List Call)
+Guarantee = (L : Layer) (t : List ℕ) (opening : Opening) → OpeningAccepted L t opening → (calls : List Call)
     → Faithful L (afterAll L (opened L t opening) calls)

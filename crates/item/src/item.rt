@@ -7,7 +7,7 @@ ghost use lib.ListN.{length};
 ghost use lib.Seq.{sets};
 ghost use Rattle.chord.specs.Points.{position};
 ghost use Rattle.chord.specs.Runs.{NearEdge};
-ghost use Rattle.item.specs.Items.{inSamples, pointAt, itemTo};
+ghost use Rattle.item.specs.Items.{inSamples, pointInSamples, itemTo};
 ghost use Rattle.item.specs.Writing.{buffersOf, writeItem, Room};
 
 // Where a vertex is, in samples.
@@ -39,7 +39,7 @@ fn in_samples(n: usize) -> f64
 // The vertex at an offset of a stick.
 pub fn point_of(e: Edge, offset: u8) -> Point
     requires { ⌜ NearEdge e ⌝ }
-    ensures { λ r. ⌜ r ≡ pointAt (position e offset) ⌝ }
+    ensures { λ r. ⌜ r ≡ pointInSamples (position e offset) ⌝ }
 {
     let p = chord::position_of(e, offset);
     Point {

@@ -12,8 +12,8 @@ use mir.Syntax.{Width, w8}
 use mir.Val.{Fits, ofZ}
 use Rattle.arith.proofs.Integers.{ints, at, viaℕ, arithℤ, leZ-false, ltZ-true}
 use Rattle.arith.specs.Nearest.{floorDiv, nearest}
-use Rattle.arith.proofs.Bounds.{Sized, ok, pure, exact, natAbs-neg}
-use Rattle.offset.specs.Offset.{rounded, upon}
+use Rattle.arith.proofs.Bounds.{Bounded, ok, pure, exact, natAbs-neg}
+use Rattle.offset.specs.Offset.{rounded, signedBy}
 
 -- a number above 0 is no zero divisor
 pub above-bits : (w : Width) (m : ℤ) → pos 0 <ℤ m → 0 < ofZ w m
@@ -55,11 +55,11 @@ pub with-size : {r : ℤ} {B : ℕ} (z : ℤ) → r ≡ z → natAbs z ≤ B →
 with-size z e h = (e, rw e h)
 
 -- a test on a machine term
-pub test-exact : (test : ℤ → Bool) {z : ℤ} (s : Sized z) → T (ok s) → {b : Bool} → test z ≡ b → test (pure s) ≡ b
+pub test-exact : (test : ℤ → Bool) {z : ℤ} (s : Bounded z) → T (ok s) → {b : Bool} → test z ≡ b → test (pure s) ≡ b
 test-exact test s t e = sym (ap test (exact s t)) ∙ e
 
 -- a machine term that is above 0
-pub above-exact : {z : ℤ} (s : Sized z) → T (ok s) → pos 0 <ℤ pure s → pos 0 <ℤ z
+pub above-exact : {z : ℤ} (s : Bounded z) → T (ok s) → pos 0 <ℤ pure s → pos 0 <ℤ z
 above-exact s t h = subst (λ (x : ℤ). pos 0 <ℤ x) (sym (exact s t)) h
 
 -- the nearest number to n / d is (2·n + d) / (2·d), rounded down
@@ -86,15 +86,15 @@ pub size-above : (d : ℤ) → ltZ d (pos 0) ≡ false → d ≡ pos (natAbs d)
 size-above (pos d) e = refl
 size-above (negsuc d) e = absurd (true≢false e)
 
-pub upon-below : (n d : ℤ) → ltZ d (pos 0) ≡ true → pos 0 -ℤ n ≡ upon n d
+pub upon-below : (n d : ℤ) → ltZ d (pos 0) ≡ true → pos 0 -ℤ n ≡ signedBy n d
 upon-below n (pos d) e = absurd (omega (arith, ltZ-true (pos d) (pos 0) e))
 upon-below n (negsuc d) e = viaℕ (search (ints, at n)) (omega arith)
 
-pub upon-above : (n d : ℤ) → ltZ d (pos 0) ≡ false → n ≡ upon n d
+pub upon-above : (n d : ℤ) → ltZ d (pos 0) ≡ false → n ≡ signedBy n d
 upon-above n (pos d) e = refl
 upon-above n (negsuc d) e = absurd (true≢false e)
 
-pub upon-size : (n d : ℤ) → natAbs (upon n d) ≡ natAbs n
+pub upon-size : (n d : ℤ) → natAbs (signedBy n d) ≡ natAbs n
 upon-size n (pos d) = refl
 upon-size n (negsuc d) = natAbs-neg n
 

@@ -15,7 +15,7 @@ use Rattle.chord.proofs.Homogeneous.{alongOf, along-is, coordinates, Plain, poi
 use Rattle.chord.proofs.Weights.{on→weights, weighted→on}
 use Rattle.chord.proofs.EdgePoints.{edge, on→closed, closed→on}
 use Rattle.chord.proofs.Meetings.{crossing, sides→parted, crossing-across, crossing-along, crossing-only, total-some}
-use Rattle.offset.specs.Offset.{spread, shift, upon, Apart, Around}
+use Rattle.offset.specs.Offset.{spread, shift, signedBy, Astride, Around}
 
 -- Spread and shift as natural numbers: the neighbours' coordinates are u and w along, a and b across; the line lies at l, the stick
 -- begins at o, the old offset is k. With the neighbours β and α off the line, the size of the spread is α + β, and the shift over it is the
@@ -23,7 +23,7 @@ use Rattle.offset.specs.Offset.{spread, shift, upon, Apart, Around}
 abbrev Means : (u w a b l o k α β : ℕ) → Type 0
 Means u w a b l o k α β =
     (natAbs (pos b -ℤ pos a) ≡ α + β)
-    × (pos ((o + k) * (α + β)) +ℤ upon ((pos u -ℤ pos o -ℤ pos k) *ℤ (pos b -ℤ pos a) +ℤ (pos w -ℤ pos u) *ℤ (pos l -ℤ pos a)) (pos b -ℤ pos a)
+    × (pos ((o + k) * (α + β)) +ℤ signedBy ((pos u -ℤ pos o -ℤ pos k) *ℤ (pos b -ℤ pos a) +ℤ (pos w -ℤ pos u) *ℤ (pos l -ℤ pos a)) (pos b -ℤ pos a)
     ≡ pos (α * u + β * w))
 
 minus-pos : (a b c : ℕ) → b ≡ a + c → pos b -ℤ pos a ≡ pos c
@@ -32,11 +32,11 @@ minus-pos a b c e = viaℕ (search ints) (omega arith)
 minus-neg : (a b c : ℕ) → a ≡ b + suc c → pos b -ℤ pos a ≡ negsuc c
 minus-neg a b c e = viaℕ (search ints) (omega arith)
 
-upon-pos : (n d : ℤ) (c : ℕ) → d ≡ pos c → upon n d ≡ n
-upon-pos n d c e = ap (upon n) e
+upon-pos : (n d : ℤ) (c : ℕ) → d ≡ pos c → signedBy n d ≡ n
+upon-pos n d c e = ap (signedBy n) e
 
-upon-neg : (n d : ℤ) (c : ℕ) → d ≡ negsuc c → upon n d ≡ negℤ n
-upon-neg n d c e = ap (upon n) e
+upon-neg : (n d : ℤ) (c : ℕ) → d ≡ negsuc c → signedBy n d ≡ negℤ n
+upon-neg n d c e = ap (signedBy n) e
 
 rising : (u w a b l o k α β : ℕ) → l ≡ a + β → b ≡ a + β + α → Means u w a b l o k α β
 rising u w a b l o k α β el eb =
@@ -68,16 +68,16 @@ fraction x b d t m n e f =
     viaℕ (search (ints, at n) depth 9) (omega (arith, ap (λ (k : ℕ). k * d) (toℕ f (search (ints, at n)))))
 
 module _ (p q : Position) (e : Edge) (old : ℕ) where
-  means : Apart p q e → Means (along e p) (along e q) (across e p) (across e q) (line e) (base e) old (off e q) (off e p)
+  means : Astride p q e → Means (along e p) (along e q) (across e p) (across e q) (line e) (base e) old (off e q) (off e p)
   unfolding off
   means (inl s) = rising (along e p) (along e q) (across e p) (across e q) (line e) (base e) old (off e q) (off e p) (omega arith) (omega arith)
   means (inr s) = falling (along e p) (along e q) (across e p) (across e q) (line e) (base e) old (off e q) (off e p) (omega arith) (omega arith) (omega arith)
 
   -- the segment meets the line at meeting / total, so v - old is meeting / total - (base + old)
-  pub spread-is : Apart p q e → natAbs (spread p q e) ≡ total p q e
+  pub spread-is : Astride p q e → natAbs (spread p q e) ≡ total p q e
   spread-is s = means s .0
 
-  pub shift-is : Apart p q e → pos ((base e + old) * total p q e) +ℤ upon (shift p q e old) (spread p q e) ≡ pos (meeting p q e)
+  pub shift-is : Astride p q e → pos ((base e + old) * total p q e) +ℤ signedBy (shift p q e old) (spread p q e) ≡ pos (meeting p q e)
   shift-is s = means s .1
 
   -- v lies in 0 to 256 if both neighbours lie within the stick's length along the line
@@ -105,8 +105,8 @@ module _ (p q : Position) (e : Edge) (old : ℕ) where
       )
 
   -- and at every such point the difference along the stick from the old offset, v - old, is the fraction that is rounded
-  pub meets-at : Apart p q e → (z : Point) → Meets z p q e
-      → slide z e old *ℤ pos (natAbs (spread p q e)) ≡ upon (shift p q e old) (spread p q e) *ℤ pos (z .d)
+  pub meets-at : Astride p q e → (z : Point) → Meets z p q e
+      → slide z e old *ℤ pos (natAbs (spread p q e)) ≡ signedBy (shift p q e old) (spread p q e) *ℤ pos (z .d)
   meets-at s z m =
       let t = sides→parted p q e s in
       let c = on→closed e (m .on-second) in
@@ -114,4 +114,4 @@ module _ (p q : Position) (e : Edge) (old : ℕ) where
       let at-z : x * total p q e ≡ meeting p q e * z .d =
       along-is e (crossing-only p q e t (m .on-first) (c .on-line)) ∙ ap (λ n. n * z .d) (crossing-along p q e) in
       ap₂ (λ a b. a *ℤ pos b) (slide-is (on→weights (m .on-first) .is-plain) e old) (spread-is s)
-      ∙ fraction x (base e + old) (z .d) (total p q e) (meeting p q e) (upon (shift p q e old) (spread p q e)) at-z (shift-is s)
+      ∙ fraction x (base e + old) (z .d) (total p q e) (meeting p q e) (signedBy (shift p q e old) (spread p q e)) at-z (shift-is s)

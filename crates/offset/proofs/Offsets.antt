@@ -6,13 +6,13 @@ use native.Mathlib.Omega.{arith}
 use lib.IntN.{ℤ, pos, natAbs, _+ℤ_}
 use lib.Signed.{_≤ℤ_}
 use Rattle.arith.proofs.Integers.{ints, at, viaℕ, toℕ, arithℤ, natAbs-parts}
-use Rattle.arith.specs.Integers.{up}
+use Rattle.arith.specs.Integers.{positivePart}
 use Rattle.grid.specs.declared.edge.Edge.{Edge}
 use Rattle.chord.specs.Points.{Position}
 use Rattle.chord.specs.Crossing.{base, meeting, total}
 use Rattle.chord.proofs.Meetings.{sides→parted, total-some}
 use Rattle.table.proofs.Entries.{Inside}
-use Rattle.offset.specs.Offset.{rounded, spread, shift, upon, newOffset, Around}
+use Rattle.offset.specs.Offset.{rounded, spread, shift, signedBy, newOffset, Around}
 use Rattle.offset.proofs.Rounding.{rounded-inside}
 use Rattle.offset.proofs.Meeting.{spread-is, shift-is, meeting-inside}
 
@@ -21,7 +21,7 @@ from-base : (b o t m : ℕ) (n : ℤ) → pos ((b + o) * t) +ℤ n ≡ pos m →
 from-base b o t m n e l = viaℕ (search (ints, at n)) (omega (arith, toℕ e (search (ints, at n))))
 
 -- an integer of 1 to 255 as a natural
-as-natural : (z : ℤ) → pos 1 ≤ℤ z → z ≤ℤ pos 255 → (pos (up z) ≡ z) × (1 ≤ up z) × (up z ≤ 255)
+as-natural : (z : ℤ) → pos 1 ≤ℤ z → z ≤ℤ pos 255 → (pos (positivePart z) ≡ z) × (1 ≤ positivePart z) × (positivePart z ≤ 255)
 as-natural z l h = (omega (arithℤ, natAbs-parts z), omega (arithℤ, natAbs-parts z), omega (arithℤ, natAbs-parts z))
 
 module _ {p q : Position} {e : Edge} {old : ℕ} (around : Around p q e old) where
@@ -29,13 +29,13 @@ module _ {p q : Position} {e : Edge} {old : ℕ} (around : Around p q e old) whe
   spread-some =
       omega (arith, spread-is p q e old (around .apart), total-some p q e (sides→parted p q e (around .apart)))
 
-  new-both : (pos (newOffset p q e old) ≡ rounded old (upon (shift p q e old) (spread p q e)) (natAbs (spread p q e)))
+  new-both : (pos (newOffset p q e old) ≡ rounded old (signedBy (shift p q e old) (spread p q e)) (natAbs (spread p q e)))
       × (1 ≤ newOffset p q e old)
       × (newOffset p q e old ≤ 255)
   unfolding newOffset
   new-both =
       let t = total p q e in
-      let n = upon (shift p q e old) (spread p q e) in
+      let n = signedBy (shift p q e old) (spread p q e) in
       let d = spread-is p q e old (around .apart) in
       let m = meeting-inside p q e old around in
       let b = from-base (base e) old t (meeting p q e) n (shift-is p q e old (around .apart)) (m .0) in
@@ -44,7 +44,7 @@ module _ {p q : Position} {e : Edge} {old : ℕ} (around : Around p q e old) whe
       as-natural _ (i .0) (i .1)
 
   -- it is the rounded fraction
-  pub new-is : pos (newOffset p q e old) ≡ rounded old (upon (shift p q e old) (spread p q e)) (natAbs (spread p q e))
+  pub new-is : pos (newOffset p q e old) ≡ rounded old (signedBy (shift p q e old) (spread p q e)) (natAbs (spread p q e))
   new-is = new-both .0
 
   pub new-inside : Inside (newOffset p q e old)

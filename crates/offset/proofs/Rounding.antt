@@ -7,7 +7,7 @@ use native.Mathlib.Omega.{arith}
 use lib.IntN.{ℤ, pos, negℤ, natAbs, _+ℤ_, _-ℤ_, _*ℤ_}
 use lib.Signed.{_≤ℤ_, _<ℤ_}
 use Rattle.arith.proofs.Integers.{ints, at, viaℕ, toℕ, arithℤ, add-parts, natAbs-parts, *ℤ-mono, *ℤ-cancel-<, *ℤ-cancel-≤}
-use Rattle.arith.specs.Nearest.{Near}
+use Rattle.arith.specs.Nearest.{IsNearest}
 use Rattle.arith.proofs.Nearest.{nearest-is, nearest-only}
 use Rattle.offset.specs.Offset.{rounded}
 
@@ -19,11 +19,11 @@ abbrev pub drawn : ℕ → ℤ → ℕ → ℤ
 drawn old n d = pos (5 * d * old) +ℤ pos 2 *ℤ n
 
 module _ (old : ℕ) (n : ℤ) (d : ℕ) (some : 0 < d) where
-  rounded-near : Near (drawn old n d) (5 * d) (rounded old n d)
+  rounded-near : IsNearest (drawn old n d) (5 * d) (rounded old n d)
   unfolding rounded
   rounded-near = nearest-is (drawn old n d) (omega arith)
 
-  rounded-only : {z : ℤ} → Near (drawn old n d) (5 * d) z → z ≡ rounded old n d
+  rounded-only : {z : ℤ} → IsNearest (drawn old n d) (5 * d) z → z ≡ rounded old n d
   unfolding rounded
   rounded-only f = nearest-only (drawn old n d) (omega arith) f
 
@@ -63,7 +63,7 @@ module _ (old : ℕ) (n : ℤ) (d : ℕ) (some : 0 < d) where
       (omega (arithℤ, add-parts z (pos 1)), omega arithℤ)
 
 -- the nearest whole number to x / d is that to the same fraction written y / c
-near-scaled : (x y z : ℤ) (d c : ℕ) → 0 < d → 0 < c → x *ℤ pos c ≡ y *ℤ pos d → Near x d z → Near y c z
+near-scaled : (x y z : ℤ) (d c : ℕ) → 0 < d → 0 < c → x *ℤ pos c ≡ y *ℤ pos d → IsNearest x d z → IsNearest y c z
 near-scaled x y z d c m n e f =
     let r = toℕ e (search (ints, at x, at y)) in
     let next : (pos 2 *ℤ x +ℤ pos d +ℤ pos 1) ≤ℤ (pos (2 * d) *ℤ (z +ℤ pos 1)) =

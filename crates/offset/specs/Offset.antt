@@ -1,11 +1,11 @@
 -- The new offset of one vertex, from its old offset and its two neighbours: "The segment between the neighbours meets the closed stick at v, an
 -- exact fraction in 0 to 256. From signed differences of coordinates, the new offset is old + 2/5 of (v - old), rounded once to the nearest
--- whole number, a half upward." That the v of these definitions is that v is shown in proofs/Steps.antt.
+-- whole number, a half upward." That the v of these definitions is that v is shown in smooth (proofs/Steps.antt).
 use mathlib.Core.Logic.{_⊎_}
 use Prim.Native.Nat.{ℕ, _+_, _*_, _≤_, _<_}
 use lib.IntN.{ℤ, pos, negsuc, negℤ, natAbs, _+ℤ_, _-ℤ_, _*ℤ_}
 use lib.Signed.{_<ℤ_}
-use Rattle.arith.specs.Integers.{up}
+use Rattle.arith.specs.Integers.{positivePart}
 use Rattle.arith.specs.Nearest.{nearest}
 use Rattle.grid.specs.declared.edge.Edge.{Edge}
 use Rattle.chord.specs.Points.{Position}
@@ -35,22 +35,22 @@ shift p q e old =
     +ℤ (pos (along e q) -ℤ pos (along e p)) *ℤ (pos (line e) -ℤ pos (across e p))
 
 -- the numerator of n / d over the size of d: it takes the sign of d
-abbrev pub upon : ℤ → ℤ → ℤ
-upon n (pos d) = n
-upon n (negsuc d) = negℤ n
+abbrev pub signedBy : ℤ → ℤ → ℤ
+signedBy n (pos d) = n
+signedBy n (negsuc d) = negℤ n
 
 -- the new offset of the vertex at offset `old` of the stick e, whose neighbours are at p and q
 unfoldable pub newOffset : Position → Position → Edge → ℕ → ℕ
 unfolding rounded
-newOffset p q e old = up (rounded old (upon (shift p q e old) (spread p q e)) (natAbs (spread p q e)))
+newOffset p q e old = positivePart (rounded old (signedBy (shift p q e old) (spread p q e)) (natAbs (spread p q e)))
 
--- What the code asks, and proofs/Steps.antt shows of the neighbours of a stick: they lie strictly on different sides of the stick's line,
-abbrev pub Apart : Position → Position → Edge → Type 0
-Apart p q e = ((across e p < line e) × (line e < across e q)) ⊎ ((across e q < line e) × (line e < across e p))
+-- What the code asks, and smooth shows of the neighbours of a stick (its proofs/Steps.antt): they lie strictly on different sides of its line,
+abbrev pub Astride : Position → Position → Edge → Type 0
+Astride p q e = ((across e p < line e) × (line e < across e q)) ⊎ ((across e q < line e) × (line e < across e p))
 
 -- within the stick's length along it, and the old offset is that of a vertex
 pub record Around (p q : Position) (e : Edge) (old : ℕ) : Type 0 where
-  pub apart : Apart p q e
+  pub apart : Astride p q e
   pub p-from : base e ≤ along e p
   pub p-to : along e p ≤ base e + 256
   pub q-from : base e ≤ along e q

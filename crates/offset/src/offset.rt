@@ -11,7 +11,7 @@ ghost use Prim.Native.Nat.{_^_, _≤_};
 ghost use lib.IntN.{pos, natAbs};
 ghost use Rattle.arith.specs.Nearest.{floorDiv, nearest};
 ghost use Rattle.chord.specs.Runs.{Near, NearEdge};
-ghost use Rattle.offset.specs.Offset.{rounded, Divisible, spread, shift, upon, newOffset, Movable};
+ghost use Rattle.offset.specs.Offset.{rounded, Divisible, spread, shift, signedBy, newOffset, Movable};
 
 // t / m for an m above 0, rounded down.
 fn floor_div(t: i64, m: i64) -> i64
@@ -77,7 +77,7 @@ fn size_of(d: i64) -> i64
 fn signed_by(n: i64, d: i64) -> i64
     requires { ⌜ natAbs n ≤ 2 ^ 40 ⌝ }
     requires { ⌜ natAbs d ≤ 524288 ⌝ }
-    ensures { λ r. ⌜ r ≡ upon n d ⌝ }
+    ensures { λ r. ⌜ r ≡ signedBy n d ⌝ }
     ensures { λ r. ⌜ natAbs r ≤ 2 ^ 40 ⌝ }
 {
     if d < 0 { 0 - n } else { n }

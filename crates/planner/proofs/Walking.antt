@@ -14,7 +14,7 @@ use Rattle.contour.proofs.Sticks.{laws}
 use Rattle.table.specs.Vertices.{keptAt}
 use Rattle.table.specs.Lent.{LentAt}
 use Rattle.drawn.specs.Drawn.{vertex, drawnAmong}
-use Rattle.item.specs.Items.{pointAt, itemTo}
+use Rattle.item.specs.Items.{pointInSamples, itemTo}
 use Rattle.planner.specs.Items.{itemsTo, contourItems}
 use Rattle.item.specs.Writing.{Buffers, writeItem, Room}
 use Rattle.item.specs.declared.item.Item.{Item}
@@ -32,21 +32,21 @@ pub record StickWritten (L : Layer) (t : List ℕ) (x : Edge) (due : Bool) (b : 
 
 module _ (L : Layer) (t : List ℕ) (x : Edge) (due : Bool) where
   left-kept : keptAt L t x ≡ true → (l : List Edge)
-      → itemsAmong L t due (x ∷ l) ≡ itemTo due (pointAt (vertex L t x)) ∷ itemsAmong L t false l
+      → itemsAmong L t due (x ∷ l) ≡ itemTo due (pointInSamples (vertex L t x)) ∷ itemsAmong L t false l
   left-kept k l = rw k
 
   left-none : keptAt L t x ≡ false → (l : List Edge) → itemsAmong L t due (x ∷ l) ≡ itemsAmong L t due l
   left-none k l = rw k
 
 module _ {L : Layer} {t : List ℕ} {x : Edge} {due due′ : Bool} {b b′ : Buffers} where
-  pub written-kept : {item : Item} {z : Buffers} → keptAt L t x ≡ true → due′ ≡ false → item ≡ itemTo due (pointAt (vertex L t x))
+  pub written-kept : {item : Item} {z : Buffers} → keptAt L t x ≡ true → due′ ≡ false → item ≡ itemTo due (pointInSamples (vertex L t x))
       → b′ ≡ z → z ≡ writeItem b item → StickWritten L t x due b due′ b′
   written-kept k d item-is e w =
-      let all : b′ ≡ writeItem b (itemTo due (pointAt (vertex L t x))) = e ∙ w ∙ ap (writeItem b) item-is in
+      let all : b′ ≡ writeItem b (itemTo due (pointInSamples (vertex L t x))) = e ∙ w ∙ ap (writeItem b) item-is in
       rw (d, all)
       (record {
         same = λ l. ap (foldl writeItem b) (left-kept L t x due k l);
-        room = λ l r. room-next b (itemTo due (pointAt (vertex L t x))) (itemsAmong L t false l) (rw (left-kept L t x due k l) at r);
+        room = λ l r. room-next b (itemTo due (pointInSamples (vertex L t x))) (itemsAmong L t false l) (rw (left-kept L t x due k l) at r);
       })
 
   pub written-none : keptAt L t x ≡ false → due′ ≡ due → b′ ≡ b → StickWritten L t x due b due′ b′
@@ -78,7 +78,7 @@ module _ {L : Layer} {t : List ℕ} {f : Edge} (given : LentAt L t f) {b₀ : Bu
         record { sound = given .sound; exact = given .exact; stick = due-one (walkOf L) (laws L (given .sound)) f x (g .here) }
 
     -- there is room for the item of a kept vertex
-    pub writes-room : keptAt L t x ≡ true → Room b (itemTo due (pointAt (vertex L t x)) ∷ [])
+    pub writes-room : keptAt L t x ≡ true → Room b (itemTo due (pointInSamples (vertex L t x)) ∷ [])
     unfolding rest
     writes-room k = room-first b _ _ (rw (left-kept L t x due k _) at (g .room))
 

@@ -20,14 +20,14 @@ ghost use Rattle.chord.specs.Points.{position};
 ghost use Rattle.table.specs.Entries.{entryOf};
 ghost use Rattle.table.specs.Vertices.{offsetIn};
 ghost use Rattle.table.specs.Lent.{LentAt, HasEntry};
-ghost use Rattle.item.specs.Items.{pointAt, itemTo};
+ghost use Rattle.item.specs.Items.{pointInSamples, itemTo};
 ghost use Rattle.planner.specs.Items.{contourItems};
 ghost use Rattle.item.specs.Writing.{buffersOf, writeItem, Room};
 
 // The item that leads to the vertex of a stick.
 fn item_at(size: Size, table: &[u16], e: Edge, due: bool) -> Item
     requires { ⌜ HasEntry size (now table) e ⌝ }
-    ensures { λ r. ⌜ r ≡ itemTo due (pointAt (position e (offsetIn (entryOf (getD (now (table .entry)) (number size e) 0))))) ⌝ }
+    ensures { λ r. ⌜ r ≡ itemTo due (pointInSamples (position e (offsetIn (entryOf (getD (now (table .entry)) (number size e) 0))))) ⌝ }
 {
     item_to(due, point_of(e, offset_in(entry_at(size, table, e))))
 }

@@ -8,7 +8,7 @@ use lib.Dec.{ltb}
 use lib.ListN.{length}
 use Rattle.arith.proofs.Booleans.{both-sides}
 use Rattle.grid.specs.Layer.{Layer}
-use Rattle.held.specs.Questions as Held
+use Rattle.held.specs.Questions.{Accepted}
 use Rattle.faithful.proofs.Faithful.{faithful}
 use Rattle.guarantee.specs.Calls.{Call, trace, read, smooth, simplify, roll, Opening, byTrace, bySheet}
 use Rattle.guarantee.proofs.Guarantee.{opening-held, call-held}
@@ -18,31 +18,31 @@ use Rattle.puzhenim.specs.Exported.{faceOf, Made, tableAfter, opens, Exp
 
 module _ (L : Layer) (figures t : List ℕ) (r : Result (List ℕ)) where
   -- the table at exit is the one found, or that of the result
-  left-held : Held.Accepted L t → Held.Accepted L (r .buffers) → Held.Accepted L (face figures t r .buffers)
+  left-held : Accepted L t → Accepted L (r .buffers) → Accepted L (face figures t r .buffers)
   unfolding face
   left-held found left = both-sides (ltb (length figures) 4) (λ e. rw e found) (λ e. rw e left)
 
   -- a face that returns 0 is that of a call that is done
-  done-held : face figures t r .number ≡ 0 → (r .report .number ≡ 0 → Held.Accepted L (r .buffers))
-      → Held.Accepted L (face figures t r .buffers)
+  done-held : face figures t r .number ≡ 0 → (r .report .number ≡ 0 → Accepted L (r .buffers))
+      → Accepted L (face figures t r .buffers)
   unfolding face
   done-held done left =
       both-sides (ltb (length figures) 4) (λ e. absurd (omega (arith, rw e at done))) (λ e. rw e (left (rw e at done)))
 
 module _ (L : Layer) where
   opening-leaves : (t : List ℕ) (opening : Opening) (figures : List ℕ) → faceOf L t (opens opening) figures .number ≡ 0
-      → Held.Accepted L (faceOf L t (opens opening) figures .buffers)
+      → Accepted L (faceOf L t (opens opening) figures .buffers)
   opening-leaves t byTrace figures done = done-held L figures t _ done (opening-held L t byTrace)
   opening-leaves t (bySheet sheet) figures done = done-held L figures t _ done (opening-held L t (bySheet sheet))
 
-  call-leaves : (t : List ℕ) → Held.Accepted L t → (call : Call) (figures : List ℕ) → Held.Accepted L (faceOf L t call figures .buffers)
+  call-leaves : (t : List ℕ) → Accepted L t → (call : Call) (figures : List ℕ) → Accepted L (faceOf L t call figures .buffers)
   call-leaves t held trace figures = left-held L figures t _ held (call-held L t held trace)
   call-leaves t held (read sheet) figures = left-held L figures t _ held (call-held L t held (read sheet))
   call-leaves t held (smooth limit) figures = left-held L figures t _ held (call-held L t held (smooth limit))
   call-leaves t held (simplify tolerance) figures = left-held L figures t _ held (call-held L t held (simplify tolerance))
   call-leaves t held (roll commands tolerance) figures = left-held L figures t _ held (call-held L t held (roll commands tolerance))
 
-  all-held : (calls : List Made) (t : List ℕ) → Held.Accepted L t → Held.Accepted L (foldl (tableAfter L) t calls)
+  all-held : (calls : List Made) (t : List ℕ) → Accepted L t → Accepted L (foldl (tableAfter L) t calls)
   all-held [] t held = held
   all-held (made ∷ calls) t held = all-held calls (tableAfter L t made) (call-leaves t held (made .call) (made .figures))
 

@@ -21,7 +21,7 @@ use Rattle.reading.proofs.Described.{described-length}
 use Rattle.reading.proofs.Vertices.{described-entries}
 
 -- what holds where a sheet is read: its questions are answered yes, and the table at exit is the one that it describes
-pub record Passes (L : Layer) (t s : List ℕ) : Type 0 where
+pub record ReadPasses (L : Layer) (t s : List ℕ) : Type 0 where
   pub yes-5 : firstNo (lengthQuestions L (length t)) ≡ Yes
   pub sound : Sound L
   pub formed : sheetAnswer L s ≡ Yes
@@ -37,11 +37,11 @@ module _ (L : Layer) (t s : List ℕ) where
   answer-is answer e = ap (answeredBy L t s) e
 
   -- It holds wherever the call is done.
-  pub read-passes : readOf L t s .refusal ≡ 0 → Passes L t s
+  pub read-passes : readOf L t s .refusal ≡ 0 → ReadPasses L t s
   unfolding answers
   read-passes done = go (firstNo answers) refl
     where
-      go : (answer : Answer) → firstNo answers ≡ answer → Passes L t s
+      go : (answer : Answer) → firstNo answers ≡ answer → ReadPasses L t s
       go Yes e =
           let both = append-all (lengthQuestions L (length t)) (sheetAnswer L s ∷ heldAnswer L (described L s) ∷ []) e in
           let eight = firstNo-yes (sheetAnswer L s) (heldAnswer L (described L s) ∷ []) (both .1) in

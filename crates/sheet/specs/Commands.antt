@@ -9,18 +9,18 @@ use Rattle.table.specs.declared.entry.Entry.{Entry}
 use Rattle.table.specs.declared.entry.Entry.the-variants.{Nothing, Kept, Removed, Wrong}
 
 -- "16 bits each, low byte first"
-abbrev pub bytesOf : ℕ → List ℕ
-bytesOf n = n % 256 ∷ n / 256 % 256 ∷ []
+abbrev pub twoBytes : ℕ → List ℕ
+twoBytes n = n % 256 ∷ n / 256 % 256 ∷ []
 
 -- "A stick is kind (1 byte), column, row": "kind 0" is horizontal, "kind 1" vertical
 abbrev pub kindOf : Bool → ℕ
 kindOf vertical = cond vertical 1 0
 
 abbrev pub stickBytes : Edge → List ℕ
-stickBytes e = kindOf (e .vertical) ∷ (bytesOf (e .column) ++ bytesOf (e .row))
+stickBytes e = kindOf (e .vertical) ∷ (twoBytes (e .column) ++ twoBytes (e .row))
 
 abbrev pub sizeCommand : Size → List ℕ
-sizeCommand size = 0x4C ∷ (bytesOf (size .width) ++ bytesOf (size .height))
+sizeCommand size = 0x4C ∷ (twoBytes (size .width) ++ twoBytes (size .height))
 
 abbrev pub contourCommand : Edge → List ℕ
 contourCommand f = 0x43 ∷ stickBytes f

@@ -9,7 +9,7 @@ ghost use mathlib.Core.List.{[], _∷_};
 ghost use Prim.Native.Nat.{_+_, _≤_, _<_};
 ghost use lib.ListN.{length};
 ghost use lib.Seq.{sets};
-ghost use Rattle.sheet.specs.Commands.{bytesOf, sizeCommand, contourCommand, vertexCommand};
+ghost use Rattle.sheet.specs.Commands.{twoBytes, sizeCommand, contourCommand, vertexCommand};
 ghost use Rattle.sheet.specs.Stored.{Stored};
 
 pub fn put_byte(sheet: &mut [u8], at: usize, b: u8)
@@ -30,7 +30,7 @@ fn put_pair(sheet: &mut [u8], at: usize, a: u8, b: u8)
 // A number of 16 bits, low byte first.
 fn put_number(sheet: &mut [u8], at: usize, n: usize)
     requires { ⌜ at + 2 ≤ length (now sheet) ⌝ }
-    ensures { λ _. ⌜ now (sheet .exit) ≡ sets (now (sheet .entry)) at (bytesOf n) ⌝ }
+    ensures { λ _. ⌜ now (sheet .exit) ≡ sets (now (sheet .entry)) at (twoBytes n) ⌝ }
 {
     put_pair(sheet, at, (n % 256) as u8, (n / 256 % 256) as u8);
 }

@@ -32,7 +32,7 @@ use Rattle.simplify.proofs.Outcomes as Simplify
 use Rattle.simplify.proofs.Held.{simplify-keeps}
 use Rattle.sheet.specs.Written.{sheetOf, writeOf}
 use Rattle.sheet.proofs.Answered.{written-done}
-use Rattle.slicing.specs.Slice.{wholeCommand, layerIn, sidesFit, passLimit, tolerance, thinned, bytesAfter, sliceOf, answerLimit, Result, stored, outcome}
+use Rattle.slicing.specs.Slice.{wholeCommand, layerIn, sidesFit, passLimit, tolerance, refined, bytesAfter, sliceOf, answerLimit, Result, stored, outcome}
 use Rattle.slicing.proofs.Bounds.{small-of, sheet-short}
 
 module _ (L : Layer) (t : List ℕ) (done : traceOf L t .refusal ≡ 0) where
@@ -65,14 +65,14 @@ module _ (L : Layer) (t : List ℕ) (done : traceOf L t .refusal ≡ 0) where
   traced-yes = kept-yes (traceOf L t .table) traced-accepted traced-kept
 
   -- what is written is a held layer
-  pub thinned-accepted : Accepted L (thinned L (traceOf L t .table))
-  unfolding thinned
-  thinned-accepted =
+  pub refined-accepted : Accepted L (refined L (traceOf L t .table))
+  unfolding refined
+  refined-accepted =
       simplify-keeps L tolerance (smoothOf L passLimit (traceOf L t .table) .table)
       (Smooth.smooth-keeps L passLimit (traceOf L t .table) traced-accepted)
 
-  pub thinned-yes : firstNo (heldQuestions L (thinned L (traceOf L t .table))) ≡ Yes
-  thinned-yes = held-yes (thinned L (traceOf L t .table)) thinned-accepted
+  pub refined-yes : firstNo (heldQuestions L (refined L (traceOf L t .table))) ≡ Yes
+  refined-yes = held-yes (refined L (traceOf L t .table)) refined-accepted
 
   pub smooth-done : smoothOf L passLimit (traceOf L t .table) .refusal ≡ 0
   smooth-done = rw (Smooth.outcome-is L passLimit (traceOf L t .table) Yes traced-yes)
@@ -83,19 +83,19 @@ module _ (L : Layer) (t : List ℕ) (done : traceOf L t .refusal ≡ 0) where
       let after = Smooth.smooth-held L passLimit (traceOf L t .table) traced-yes in
       rw (Simplify.outcome-is L u tolerance Yes (kept-yes u (after .0) (after .1)))
 
-  pub write-done : (out : List ℕ) → length (sheetOf L (thinned L (traceOf L t .table))) ≤ length out
-      → writeOf L (thinned L (traceOf L t .table)) out .refusal ≡ 0
-  write-done out room = rw (written-done L (thinned L (traceOf L t .table)) out thinned-yes room)
+  pub write-done : (out : List ℕ) → length (sheetOf L (refined L (traceOf L t .table))) ≤ length out
+      → writeOf L (refined L (traceOf L t .table)) out .refusal ≡ 0
+  write-done out room = rw (written-done L (refined L (traceOf L t .table)) out refined-yes room)
 
 -- the same of the tables that a run leaves: t₁ after Trace, t₂ after Smooth and Simplify
-pub after-done : (L : Layer) (t t₁ t₂ : List ℕ) → record { refusal = 0; place = 0; table = t₁ } ≡ traceOf L t → t₂ ≡ thinned L t₁
+pub after-done : (L : Layer) (t t₁ t₂ : List ℕ) → record { refusal = 0; place = 0; table = t₁ } ≡ traceOf L t → t₂ ≡ refined L t₁
     → sidesFit (L .size) ≡ true → (firstNo (heldQuestions L t₂) ≡ Yes) × (length (sheetOf L t₂) ≤ answerLimit)
-after-done L t t₁ t₂ traced thin fits =
+after-done L t t₁ t₂ traced refine fits =
     let done : traceOf L t .refusal ≡ 0 = sym (ap (λ (o : Outcome). o .refusal) traced) in
-    let is : thinned L (traceOf L t .table) ≡ t₂ = sym (thin ∙ ap (λ (o : Outcome). thinned L (o .table)) traced) in
-    let accepted = thinned-accepted L t done in
-    let short = sheet-short L (accepted .sound) (thinned L (traceOf L t .table)) (small-of (L .size) fits) (accepted .entries) in (
-      subst (λ (u : List ℕ). firstNo (heldQuestions L u) ≡ Yes) is (thinned-yes L t done),
+    let is : refined L (traceOf L t .table) ≡ t₂ = sym (refine ∙ ap (λ (o : Outcome). refined L (o .table)) traced) in
+    let accepted = refined-accepted L t done in
+    let short = sheet-short L (accepted .sound) (refined L (traceOf L t .table)) (small-of (L .size) fits) (accepted .entries) in (
+      subst (λ (u : List ℕ). firstNo (heldQuestions L u) ≡ Yes) is (refined-yes L t done),
       subst (λ (u : List ℕ). length (sheetOf L u) ≤ answerLimit) is short,
     )
 
@@ -105,8 +105,8 @@ unfolding bytesAfter
 bytes-short L t fits = both-sides (eqb (traceOf L t .refusal) 0)
     (λ e.
     let done = eqb-true (traceOf L t .refusal) 0 e in
-    let accepted = thinned-accepted L t done in
-    rw e (sheet-short L (accepted .sound) (thinned L (traceOf L t .table)) (small-of (L .size) fits) (accepted .entries)))
+    let accepted = refined-accepted L t done in
+    rw e (sheet-short L (accepted .sound) (refined L (traceOf L t .table)) (small-of (L .size) fits) (accepted .entries)))
     (λ e. rw e (lit≤ tt))
 
 pub slice-short : (input : List ℕ) → length (sliceOf input) ≤ answerLimit

@@ -30,7 +30,7 @@ use Rattle.sheet.specs.Written.{sheetOf}
 use Rattle.sheet.specs.declared.write.Written.{Written}
 use Rattle.sheet.specs.declared.write.Written.the-variants as Written
 use Rattle.sheet.proofs.Answered.{written-done}
-use Rattle.slicing.specs.Slice.{sizeLetter, commandLength, wholeCommand, numberAt, sidesFit, refusedBytes, passLimit, tolerance, thinned, bytesAfter, layerBytes, sliceOf, stored, outcome}
+use Rattle.slicing.specs.Slice.{sizeLetter, commandLength, wholeCommand, numberAt, sidesFit, refusedBytes, passLimit, tolerance, refined, bytesAfter, layerBytes, sliceOf, stored, outcome}
 
 -- the table at exit is the one of the outcome
 smoothed-table : (r : Smoothing) (t : List ℕ) → t ≡ Smooth.outcome r t .table
@@ -42,10 +42,10 @@ simplified-table (Simplified.Done removed tried) t = refl
 simplified-table (Simplified.Refused q place) t = refl
 
 -- Smooth and then Simplify: t, t₁ and t₂ are the tables before, between and after
-pub thinned-is : (L : Layer) (t t₁ t₂ : List ℕ) (s : Smoothing) (r : Simplified)
-    → Smooth.outcome s t₁ ≡ Smooth.smoothOf L passLimit t → Simplify.outcome r t₂ ≡ Simplify.simplifyOf L tolerance t₁ → t₂ ≡ thinned L t
-unfolding thinned
-thinned-is L t t₁ t₂ s r smoothed simplified =
+pub refined-is : (L : Layer) (t t₁ t₂ : List ℕ) (s : Smoothing) (r : Simplified)
+    → Smooth.outcome s t₁ ≡ Smooth.smoothOf L passLimit t → Simplify.outcome r t₂ ≡ Simplify.simplifyOf L tolerance t₁ → t₂ ≡ refined L t
+unfolding refined
+refined-is L t t₁ t₂ s r smoothed simplified =
     simplified-table r t₂
     ∙ ap (λ (o : Simplify.Outcome). o .table) simplified
     ∙ ap (λ (u : List ℕ). Simplify.simplifyOf L tolerance u .table) (smoothed-table s t₁ ∙ ap (λ (o : Smooth.Outcome). o .table) smoothed)
@@ -55,7 +55,7 @@ module _ (L : Layer) (t : List ℕ) (r : Traced) (o : Trace.Outcome) (asked : Tr
   pub traced-done : r ≡ Traced.Done → record { refusal = 0; place = 0; table = t } ≡ o
   traced-done e = sym (ap (λ (x : Traced). Trace.outcome x t) e) ∙ asked
 
-  pub bytes-done : r ≡ Traced.Done → sheetOf L (thinned L t) ≡ bytesAfter L o
+  pub bytes-done : r ≡ Traced.Done → sheetOf L (refined L t) ≡ bytesAfter L o
   unfolding bytesAfter
   bytes-done e = ap (bytesAfter L) (traced-done e)
 
@@ -63,7 +63,7 @@ module _ (L : Layer) (t : List ℕ) (r : Traced) (o : Trace.Outcome) (asked : Tr
   unfolding bytesAfter
   bytes-refused q place e =
       let some : eqb (numberOf q) 0 ≡ false = ne-eqb (numberOf q) 0 (λ z. omega (arith, number-some q)) in
-      sym (ap (λ (b : Bool). cond b (sheetOf L (thinned L t)) (refusedBytes (numberOf q))) some)
+      sym (ap (λ (b : Bool). cond b (sheetOf L (refined L t)) (refusedBytes (numberOf q))) some)
       ∙ ap (bytesAfter L) (sym (ap (λ (x : Traced). Trace.outcome x t) e) ∙ asked)
 
 -- a part of a table of zeros is one

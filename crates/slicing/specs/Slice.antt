@@ -58,15 +58,15 @@ abbrev pub tolerance : ℕ
 tolerance = 64
 
 -- the table that is written, by the traced one
-unfoldable pub thinned : Layer → List ℕ → List ℕ
+unfoldable pub refined : Layer → List ℕ → List ℕ
 unfolding smoothOf simplifyOf
-thinned L t = simplifyOf L tolerance (smoothOf L passLimit t .table) .table
+refined L t = simplifyOf L tolerance (smoothOf L passLimit t .table) .table
 
 -- the bytes, by the outcome of Trace: "and writes the sheet, or hex 3F and the number"
 unfoldable pub bytesAfter : Layer → Outcome → List ℕ
-unfolding thinned sheetOf
+unfolding refined sheetOf
 bytesAfter L traced =
-    cond (eqb (traced .refusal) 0) (sheetOf L (thinned L (traced .table))) (refusedBytes (traced .refusal))
+    cond (eqb (traced .refusal) 0) (sheetOf L (refined L (traced .table))) (refusedBytes (traced .refusal))
 
 -- the bytes of a layer that is traced in the table t; they are the same for every table of that length, since Trace looks at no entry of t
 abbrev pub bytesIn : Layer → List ℕ → List ℕ

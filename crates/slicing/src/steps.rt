@@ -13,7 +13,7 @@ ghost use Rattle.grid.specs.Questions.{numberOf, firstNo};
 ghost use Rattle.grid.specs.declared.question.Answer.the-variants.{Yes};
 ghost use Rattle.held.specs.Questions.{heldQuestions};
 ghost use Rattle.sheet.specs.Written.{sheetOf};
-ghost use Rattle.slicing.specs.Slice.{sidesFit, tableLimit, answerLimit, refusedBytes, thinned, bytesIn, layerBytes, stored, outcome};
+ghost use Rattle.slicing.specs.Slice.{sidesFit, tableLimit, answerLimit, refusedBytes, refined, bytesIn, layerBytes, stored, outcome};
 
 // How many grid edges a layer of 64 by 64 samples has, the most that there can be: `tableLimit` of specs/Slice.antt.
 const TABLE_LIMIT: usize = 8064;
@@ -37,8 +37,8 @@ pub fn refuse(question: Refusal, output: &mut [u8]) -> usize
 }
 
 // Smooths and simplifies a traced layer. Neither call is refused there (proofs/Accepting.antt).
-fn thin(w: u16, h: u16, bitmap: &[u8], table: &mut [u16])
-    ensures { λ _. ⌜ now (table .exit) ≡ thinned (layerOf (sizeOf w h) (now (bitmap .entry))) (now (table .entry)) ⌝ }
+fn refine(w: u16, h: u16, bitmap: &[u8], table: &mut [u16])
+    ensures { λ _. ⌜ now (table .exit) ≡ refined (layerOf (sizeOf w h) (now (bitmap .entry))) (now (table .entry)) ⌝ }
 {
     smooth::smooth(w, h, bitmap, table, PASS_LIMIT);
     simplify::simplify(w, h, bitmap, table, TOLERANCE);
@@ -66,7 +66,7 @@ fn slice_in(w: u16, h: u16, bitmap: &[u8], table: &mut [u16], output: &mut [u8])
     let traced = trace::trace(w, h, bitmap, table);
     match traced {
         Traced::Done => {
-            thin(w, h, bitmap, table);
+            refine(w, h, bitmap, table);
             write(w, h, bitmap, table, output)
         }
         Traced::Refused(question, _) => refuse(question, output),

@@ -18,7 +18,7 @@ use Rattle.step.proofs.Links.{sameSide}
 use Rattle.step.proofs.Walks.{isUpper, edgeOf-beside, there-other}
 use Rattle.chord.specs.Points.{Position, position}
 use Rattle.chord.specs.Crossing.{along, across, base, line}
-use Rattle.offset.specs.Offset.{Apart}
+use Rattle.offset.specs.Offset.{Astride}
 
 -- the position is strictly above the line of the edge, or strictly below it
 abbrev pub Past : Bool → Edge → Position → Type 0
@@ -78,6 +78,6 @@ module _ (L : Layer) (sound : Sound L) (e : Edge) (stick : isStick L e ≡ true)
   prev-beside = linked (not (upward L e))
 
 -- a position on each side of the line
-pub beside-apart : (up : Bool) (e : Edge) (p q : Position) → Beside (not up) e p → Beside up e q → Apart p q e
+pub beside-apart : (up : Bool) (e : Edge) (p q : Position) → Beside (not up) e p → Beside up e q → Astride p q e
 beside-apart true e p q b f = inl (b .past, f .past)
 beside-apart false e p q b f = inr (f .past, b .past)

@@ -7,7 +7,7 @@ use Prim.Native.Nat.{_+_, _≤_}
 use native.Mathlib.Omega.{arith}
 use borrow.Author.Tests.{eq-eqb, ne-eqb, not-true, not-false}
 use lib.ListN.{length}
-use Rattle.sheet.specs.Commands.{bytesOf, kindOf, stickBytes, contourCommand}
+use Rattle.sheet.specs.Commands.{twoBytes, kindOf, stickBytes, contourCommand}
 use Rattle.formed.specs.Expected.{standsAt}
 use Rattle.formed.proofs.Bytes.{contour-bytes, stands-yes, stands-no, stands-short, numbers-no, contour-rest, contour-last}
 use Rattle.formed.proofs.command.has_contour.Statement.{statement}
@@ -20,7 +20,7 @@ room c = omega (arith, c .before .before .pre, c .if1 .left)
 -- C and the kind stand
 opened : (c : tie.Else3)
     → let a = c .before .before .before .before .before .before .before .args in
-    standsAt (a .sheet .now) (a .i + 2) (bytesOf (a .f .column) ++ bytesOf (a .f .row)) ≡ standsAt (a .sheet .now) (a .i) (contourCommand (a .f))
+    standsAt (a .sheet .now) (a .i + 2) (twoBytes (a .f .column) ++ twoBytes (a .f .row)) ≡ standsAt (a .sheet .now) (a .i) (contourCommand (a .f))
 opened c =
     let letter = c .before .before .before in
     let a = letter .before .before .before .before .args in
@@ -42,7 +42,7 @@ returns-3 c =
     let letter = c .before .before .before in
     let roomy = letter .before .before in
     let a = roomy .before .before .args in
-    stands-no (a .sheet .now) (a .i + 1) (kindOf (a .f .vertical)) (bytesOf (a .f .column) ++ bytesOf (a .f .row)) (omega (arith, room roomy))
+    stands-no (a .sheet .now) (a .i + 1) (kindOf (a .f .vertical)) (twoBytes (a .f .column) ++ twoBytes (a .f .row)) (omega (arith, room roomy))
     (ne-eqb _ _ (λ e. c .if3 .taken (e ∙ sym (c .before .kind-of .ensures))))
     ∙ stands-yes (a .sheet .now) (a .i) 0x43 (stickBytes (a .f)) (omega (arith, room roomy)) (eq-eqb _ _ (letter .if2 .left))
 

@@ -4,7 +4,7 @@ use mathlib.Core.Path.{_≡_, sym, _∙_}
 use mathlib.Core.List.{_++_}
 use native.Mathlib.Omega.{arith}
 use borrow.Author.Tests.{eq-eqb, ne-eqb, not-true, not-false}
-use Rattle.sheet.specs.Commands.{bytesOf, sizeCommand}
+use Rattle.sheet.specs.Commands.{twoBytes, sizeCommand}
 use Rattle.formed.specs.Expected.{standsAt}
 use Rattle.formed.proofs.Bytes.{size-bytes, stands-yes, stands-no, stands-short, numbers-no, numbers-yes}
 use Rattle.formed.proofs.command.has_size.Statement.{statement}
@@ -13,11 +13,11 @@ use Rattle.formed.proofs.command.has_size.Tie as tie
 -- L stands
 opened : (c : tie.Else2)
     → let a = c .before .before .before .before .args in
-    standsAt (a .sheet .now) 1 (bytesOf (a .size .width) ++ bytesOf (a .size .height)) ≡ standsAt (a .sheet .now) 0 (sizeCommand (a .size))
+    standsAt (a .sheet .now) 1 (twoBytes (a .size .width) ++ twoBytes (a .size .height)) ≡ standsAt (a .sheet .now) 0 (sizeCommand (a .size))
 opened c =
     let roomy = c .before .before in
     let a = roomy .before .before .args in
-    stands-yes (a .sheet .now) 0 0x4C (bytesOf (a .size .width) ++ bytesOf (a .size .height)) (omega (arith, roomy .if1 .left))
+    stands-yes (a .sheet .now) 0 0x4C (twoBytes (a .size .width) ++ twoBytes (a .size .height)) (omega (arith, roomy .if1 .left))
     (eq-eqb _ _ (c .if2 .left))
 
 returns : tie.Need-returns
@@ -29,7 +29,7 @@ returns-2 : tie.Need-returns-2
 returns-2 c =
     let roomy = c .before .before in
     let a = roomy .before .before .args in
-    stands-no (a .sheet .now) 0 0x4C (bytesOf (a .size .width) ++ bytesOf (a .size .height)) (omega (arith, roomy .if1 .left))
+    stands-no (a .sheet .now) 0 0x4C (twoBytes (a .size .width) ++ twoBytes (a .size .height)) (omega (arith, roomy .if1 .left))
     (ne-eqb _ _ (c .if2 .taken))
 
 returns-3 : tie.Need-returns-3

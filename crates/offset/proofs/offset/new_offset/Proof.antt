@@ -7,7 +7,7 @@ use mir.Syntax.{w64}
 use mir.Val.{toZ, ofZ}
 use Rattle.arith.proofs.Integers.{arithℤ}
 use Rattle.arith.proofs.Bounds.{sized, exact, within}
-use Rattle.offset.specs.Offset.{rounded, spread, upon, newOffset}
+use Rattle.offset.specs.Offset.{rounded, spread, signedBy, newOffset}
 use Rattle.offset.proofs.Division.{above-exact, byte-fits}
 use Rattle.offset.proofs.Offsets.{spread-some, new-is, new-inside}
 use Rattle.offset.proofs.offset.new_offset.Statement.{statement}
@@ -48,7 +48,7 @@ rounds c =
     let k = exact {z = toZ w64 (ofZ w64 (shift-known .shift-of .result))} (search sized depth 9) tt ∙ shift-known .shift-of .ensures .0 in
     let n = exact {z = toZ w64 (ofZ w64 (sign-known .signed-by .result))} (search sized depth 9) tt ∙ sign-known .signed-by .ensures .0 in
     let s = exact {z = toZ w64 (ofZ w64 (size-known .size-of .result))} (search sized depth 9) tt ∙ size-known .size-of .ensures .0 in
-    let n′ = n ∙ (λ i. upon (k i) (d i)) in
+    let n′ = n ∙ (λ i. signedBy (k i) (d i)) in
     let s′ = s ∙ (λ i. pos (natAbs (d i))) in
     exact (search sized depth 9) tt ∙ c .rounded-of .ensures .0 ∙ (λ i. rounded (start .args .old) (n′ i) (natAbs (s′ i)))
     ∙ sym (new-is (start .pre .around))

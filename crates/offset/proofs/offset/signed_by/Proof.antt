@@ -7,12 +7,12 @@ use lib.Signed.{ltZ}
 use mir.Syntax.{w64}
 use mir.Val.{toZ, ofZ}
 use Rattle.arith.proofs.Bounds.{sized, in-range, exact}
-use Rattle.offset.specs.Offset.{upon}
+use Rattle.offset.specs.Offset.{signedBy}
 use Rattle.offset.proofs.Division.{with-size, test-exact, upon-below, upon-above, upon-size}
 use Rattle.offset.proofs.offset.signed_by.Statement.{statement}
 use Rattle.offset.proofs.offset.signed_by.Tie as tie
 
-size : (c : tie.Start) → natAbs (upon (c .args .n) (c .args .d)) ≤ 2 ^ 40
+size : (c : tie.Start) → natAbs (signedBy (c .args .n) (c .args .d)) ≤ 2 ^ 40
 size c = omega (arith, upon-size (c .args .n) (c .args .d), c .pre .0)
 
 returns : tie.Need-returns

@@ -5,7 +5,7 @@ use borrow.Author.Needs.{needs}
 use Rattle.chord.specs.Points.{position}
 use Rattle.table.specs.Vertices.{offsetIn}
 use Rattle.drawn.proofs.Runs.{in-grid-near}
-use Rattle.item.specs.Items.{pointAt, itemTo}
+use Rattle.item.specs.Items.{pointInSamples, itemTo}
 use Rattle.planner.proofs.walk.item_at.Statement.{statement}
 use Rattle.planner.proofs.walk.item_at.Tie as tie
 
@@ -19,7 +19,7 @@ returns c =
     let a = c .before .before .before .before .before .args in
     let offset = c .before .before .offset-in .ensures ∙ ap offsetIn (c .before .before .before .entry-at .ensures) in
     c .item-to .ensures
-    ∙ ap (itemTo (a .due)) (c .before .point-of .ensures ∙ ap (λ (o : ℕ). pointAt (position (a .e) o)) offset)
+    ∙ ap (itemTo (a .due)) (c .before .point-of .ensures ∙ ap (λ (o : ℕ). pointInSamples (position (a .e) o)) offset)
 
 pub item-at-spec : {M : Type 1} → statement M
 item-at-spec =

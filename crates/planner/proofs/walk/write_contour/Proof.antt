@@ -11,7 +11,7 @@ use Rattle.table.specs.Vertices.{isKept, offsetAt, keptAt}
 use Rattle.table.specs.Lent.{LentAt}
 use Rattle.table.proofs.Lent.{has-entry}
 use Rattle.drawn.specs.Drawn.{vertex}
-use Rattle.item.specs.Items.{pointAt, itemTo}
+use Rattle.item.specs.Items.{pointInSamples, itemTo}
 use Rattle.planner.specs.Items.{contourItems}
 use Rattle.item.specs.Writing.{buffersOf}
 use Rattle.item.proofs.Writing.{AsLong, fold-long}
@@ -46,7 +46,7 @@ item-is : (c : tie.After-item-at Inv-loop μ-loop)
     → let at-loop = c .before .before .before .before .before .before in
     let a = start at-loop .args in
     let L = layerOf (a .size) (a .bitmap .now) in
-    c .item-at .result ≡ itemTo (at-loop .loop .due) (pointAt (vertex L (a .table .now) (at-loop .loop .e)))
+    c .item-at .result ≡ itemTo (at-loop .loop .due) (pointInSamples (vertex L (a .table .now) (at-loop .loop .e)))
 unfolding offsetAt
 item-is c = c .item-at .ensures
 

@@ -5,7 +5,7 @@ use Prim.Native.Nat.{ℕ, _+_}
 use native.Mathlib.Omega.{arith}
 use borrow.Author.Needs.{needs}
 use lib.Seq.{sets}
-use Rattle.sheet.specs.Commands.{kindOf, bytesOf}
+use Rattle.sheet.specs.Commands.{kindOf, twoBytes}
 use Rattle.sheet.proofs.Stored.{sets-three}
 use Rattle.sheet.proofs.bytes.put_first.Statement.{statement}
 use Rattle.sheet.proofs.bytes.put_first.Tie as tie
@@ -16,7 +16,7 @@ returns c =
     let column = row .before .before .before .before in
     let opened = column .before .before .before .before in
     let a = opened .before .before .before .before .args in
-    sets-three (0x43 ∷ kindOf (a .first .vertical) ∷ []) (bytesOf (a .first .column)) (bytesOf (a .first .row)) (a .sheet .now)
+    sets-three (0x43 ∷ kindOf (a .first .vertical) ∷ []) (twoBytes (a .first .column)) (twoBytes (a .first .row)) (a .sheet .now)
     (a .at) (a .at + 2) (a .at + 4)
     (opened .put-pair .ensures ∙ ap (λ (k : ℕ). sets (a .sheet .now) (a .at) (0x43 ∷ k ∷ [])) (opened .before .kind-of .ensures))
     (column .put-number .ensures) (row .put-number2 .ensures) (omega arith) (omega arith)

@@ -2,7 +2,7 @@
 use mathlib.Core.List.{[], _∷_}
 use native.Mathlib.Omega.{arith}
 use borrow.Author.Needs.{needs}
-use Rattle.sheet.specs.Commands.{bytesOf}
+use Rattle.sheet.specs.Commands.{twoBytes}
 use Rattle.sheet.proofs.Stored.{sets-three}
 use Rattle.sheet.proofs.bytes.put_size.Statement.{statement}
 use Rattle.sheet.proofs.bytes.put_size.Tie as tie
@@ -13,7 +13,7 @@ returns c =
     let width = height .before .before .before .before in
     let opened = width .before .before .before .before in
     let a = opened .before .before .before .args in
-    sets-three (0x4C ∷ []) (bytesOf (a .size .width)) (bytesOf (a .size .height)) (a .sheet .now) 0 1 3
+    sets-three (0x4C ∷ []) (twoBytes (a .size .width)) (twoBytes (a .size .height)) (a .sheet .now) 0 1 3
     (opened .put-byte .ensures) (width .put-number .ensures) (height .put-number2 .ensures) (omega arith) (omega arith)
 
 pub put-size-spec : {M : Type 1} → statement M

@@ -1,4 +1,4 @@
--- `slice_in` meets its contract. `thinned`, `told` and `traced` are the places after thinning, where the answer of Trace is known, and after
+-- `slice_in` meets its contract. `refined`, `told` and `traced` are the places after `refine`, where the answer of Trace is known, and after
 -- Trace; the buffers that a call leaves are its `last`.
 use mathlib.Core.Path.{ap, _∙_}
 use mathlib.Core.List.{List}
@@ -16,8 +16,8 @@ use Rattle.slicing.proofs.steps.slice_in.Tie as tie
 
 write-requires : tie.Need-write-requires
 write-requires c κs =
-    let thinned = c .before .before .before .before in
-    let told = thinned .before .before in
+    let refined = c .before .before .before .before in
+    let told = refined .before .before in
     let traced = told .before .before .before .before in
     let start = traced .before .before .before .before .before in
     let a = start .args in
@@ -26,20 +26,20 @@ write-requires c κs =
     traced-done L (traced .trace .last .1 .1 .1 .0) (traced .trace .result) (traceOf L (a .table .now)) (traced .trace .ensures)
     (told .enum-told .given .1) in
     let after =
-    after-done L (a .table .now) (traced .trace .last .1 .1 .1 .0) (thinned .thin .last .1 .1 .1 .0) done (thinned .thin .ensures)
+    after-done L (a .table .now) (traced .trace .last .1 .1 .1 .0) (refined .refine .last .1 .1 .1 .0) done (refined .refine .ensures)
     (start .pre .0) in
     (after .0, omega (arith, after .1, start .pre .1))
 
 returns : tie.Need-returns
 returns c =
     let put = c .before .before .before in
-    let thinned = put .before .before .before .before in
-    let told = thinned .before .before in
+    let refined = put .before .before .before .before in
+    let told = refined .before .before in
     let traced = told .before .before .before .before in
     let a = traced .before .before .before .before .before .args in
     let L = layerOf (sizeOf (a .w) (a .h)) (a .bitmap .now) in
     c .before .before .write .ensures
-    ∙ ap (λ (t : List ℕ). stored (a .output .now) (sheetOf L t)) (thinned .thin .ensures)
+    ∙ ap (λ (t : List ℕ). stored (a .output .now) (sheetOf L t)) (refined .refine .ensures)
     ∙ ap (stored (a .output .now))
     (bytes-done L (traced .trace .last .1 .1 .1 .0) (traced .trace .result) (traceOf L (a .table .now)) (traced .trace .ensures)
     (told .enum-told .given .1))
