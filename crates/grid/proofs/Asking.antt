@@ -11,7 +11,6 @@ use Rattle.arith.specs.Ranges.{least}
 use Rattle.arith.proofs.Ranges.{below-add, leastFrom-holds, leastFrom-below}
 use Rattle.grid.specs.Layer.{Layer, stride, rowEnd}
 use Rattle.grid.specs.Questions.{firstNo, askEach, sidesAnswer, lengthAnswer, spareSet, spareAnswer, borderIn, borderAt, borderAnswer, layerQuestions, Sized, Whole}
-use Rattle.grid.specs.declared.layer.Size.{Size}
 use Rattle.grid.specs.declared.question.Refusal.{Refusal}
 use Rattle.grid.specs.declared.question.Refusal.the-variants.{SpareBits, BorderInside}
 use Rattle.grid.specs.declared.question.Answer.{Answer}
@@ -115,7 +114,3 @@ module _ {L : Layer} {row : ℕ} (passed : RowsPassed L borderAt (L .size .width
   pub border-none : L .size .height ≤ row → Yes ≡ borderAnswer L
   unfolding borderAnswer
   border-none all = rows-yes passed BorderInside all
-
-pub places-few : {size : Size} → Sized size → {row : ℕ} → row < size .height → row * size .width ≤ 1048576
-places-few {size} sized {row} less =
-    mul-le-mul {n₁ = row} {m₁ = size .width} {n₂ = 1024} {m₂ = 1024} (omega (arith, sized .low)) (sized .narrow)

@@ -1,10 +1,12 @@
 -- `ask_border` meets its contract. The invariant: no border sample of a row passed is inside.
-use Prim.Native.Nat.{_-_, _*_, _≤_}
+use Prim.Native.Nat.{_+_, _-_, _*_, _<_}
 use native.Mathlib.Omega.{arith}
 use borrow.Author.Needs.{needs}
+use lib.Arith.{digits-lt}
 use Rattle.grid.specs.Layer.{layerOf}
 use Rattle.grid.specs.Questions.{borderAt}
-use Rattle.grid.proofs.Asking.{RowsPassed, rows-start, border-turn, border-here, border-none, places-few}
+use Rattle.grid.proofs.Numbers.{samples-small}
+use Rattle.grid.proofs.Asking.{RowsPassed, rows-start, border-turn, border-here, border-none}
 use Rattle.grid.proofs.question.ask_border.Statement.{statement}
 use Rattle.grid.proofs.question.ask_border.Tie as tie
 
@@ -14,11 +16,12 @@ Inv-loop size bitmap width height row₀ row = RowsPassed (layerOf size bitmap) 
 abbrev μ-loop : tie.MeasureT-loop
 μ-loop size bitmap width height row₀ row = height - row
 
-few : (c : tie.Then1 Inv-loop μ-loop)
-    → let at-loop = c .before .before .before in at-loop .loop .row * at-loop .before .before .args .size .width ≤ 1048576
-few c =
+place : (c : tie.Then1 Inv-loop μ-loop)
+    → let at-loop = c .before .before .before in
+    at-loop .loop .row * at-loop .before .before .args .size .width + c .before .border-column .result < 1048576
+place c =
     let test = c .before .before in
-    places-few (test .before .before .before .pre .sized) (test .loop-test .taken)
+    omega (arith, samples-small _ (test .before .before .before .pre .sized), digits-lt (test .loop-test .taken) (c .if1 .taken))
 
 returns : tie.Need-returns Inv-loop μ-loop
 returns c =
@@ -31,5 +34,5 @@ loop-again c = border-turn (c .before .before .before .loop .inv) (c .before .bo
 pub ask-border-spec : {M : Type 1} → statement M
 ask-border-spec =
     tie.close
-    (tie.spec Inv-loop μ-loop (λ c. rows-start) (λ c κs. search needs) (λ c. omega (arith, few c)) (λ c. omega (arith, few c)) returns (λ c. search needs) (λ c. search needs)
+    (tie.spec Inv-loop μ-loop (λ c. rows-start) (λ c κs. search needs) (λ c. omega (arith, place c)) (λ c. omega (arith, place c)) returns (λ c. search needs) (λ c. search needs)
     loop-again (λ c. border-none (c .before .loop .inv) (omega arith)))
