@@ -63,10 +63,11 @@ count-none f zero h = refl
 count-none f (suc n) h = rw (count-none f n (λ k l. h k (omega arith)), h n (omega arith))
 
 -- where none from k on passes the test, counting may stop there
-pub count-past : (f : ℕ → Bool) (k n : ℕ) → k ≤ n → ((j : ℕ) → k ≤ j → f j ≡ false) → count f n ≡ count f k
+pub count-past : (f : ℕ → Bool) (k n : ℕ) → k ≤ n → ((j : ℕ) → k ≤ j → j < n → f j ≡ false) → count f n ≡ count f k
 count-past f k n l none =
     let e : k + (n - k) ≡ n = omega arith in
-    sym (ap (count f) e) ∙ count-add f k (n - k) ∙ omega (arith, count-none (λ j. f (k + j)) (n - k) (λ j h. none (k + j) (omega arith)))
+    let rest = count-none (λ j. f (k + j)) (n - k) (λ j h. none (k + j) (omega arith) (omega arith)) in
+    sym (ap (count f) e) ∙ count-add f k (n - k) ∙ omega (arith, rest)
 
 pub count-le : (f : ℕ → Bool) (n : ℕ) → count f n ≤ n
 unfolding count

@@ -9,12 +9,13 @@ use native.Mathlib.Omega.{arith}
 use lib.Bits.{bitOr, bitXor}
 use lib.ListN.{length, getD, set, length-set, replicate, length-replicate, getD-replicate, List·getD-eq-default}
 use lib.Seq.{getD-set-same, getD-set-other}
-use Rattle.arith.specs.Ranges.{count, leastFrom}
-use Rattle.arith.proofs.Ranges.{count-add, count-same, leastFrom-is, leastFrom-none, leastFrom-le, leastFrom-below, leastFrom-holds}
+use Rattle.arith.specs.Ranges.{count, least, leastFrom}
+use Rattle.arith.proofs.Ranges.{leastFrom-is, leastFrom-none, leastFrom-le, leastFrom-below, leastFrom-holds}
+use Rattle.arith.proofs.Counting.{CountedTo, counted-turn}
 use Rattle.arith.proofs.Finite.{least-from}
 use Rattle.grid.specs.Layer.{bit}
 use Rattle.grid.proofs.Bits.{bit-xor, bit-or, bit-power, bit-power-other, bit-zero}
-use Rattle.bitset.specs.Sets.{words, setBits, has, Empty, withNumber, withoutNumber}
+use Rattle.bitset.specs.Sets.{words, setBits, has, nextIn, Empty, withNumber, withoutNumber}
 
 -- a word stored: the numbers of that word are read from it, and no other changes
 has-stored : (t : List ℕ) (n x : ℕ) → n / 64 < length t → has (set t (n / 64) x) n ≡ bit x (n % 64)
@@ -95,21 +96,21 @@ unfolding has
 has-past t sized k h = rw (List·getD-eq-default t 0 {n = k / 64} (omega arith)) (bit-zero (k % 64))
 
 -- the bits of a word are those of 64 numbers
-pub has-bit : (t : List ℕ) (i b : ℕ) → b < 64 → has t (64 * i + b) ≡ bit (getD t i 0) b
+has-bit : (t : List ℕ) (i b : ℕ) → b < 64 → has t (64 * i + b) ≡ bit (getD t i 0) b
 unfolding has
 has-bit t i b h =
     let d : (64 * i + b) / 64 ≡ i = omega arith in
     let m : (64 * i + b) % 64 ≡ b = omega arith in
     rw (d, m)
 
-pub count-word : (t : List ℕ) (i : ℕ) → count (has t) (64 * (i + 1)) ≡ count (has t) (64 * i) + count (bit (getD t i 0)) 64
-count-word t i =
-    let e : 64 * (i + 1) ≡ 64 * i + 64 = omega arith in
-    ap (count (has t)) e ∙ count-add (has t) (64 * i) 64
-    ∙ ap (λ (n : ℕ). count (has t) (64 * i) + n) (count-same (λ k. has t (64 * i + k)) (bit (getD t i 0)) 64 (λ k h. has-bit t i k h))
+pub count-word : (t : List ℕ) {m i total : ℕ} → CountedTo (has t) 64 m i total → i < m
+    → {ones : ℕ} → ones ≡ count (bit (getD t i 0)) 64 → CountedTo (has t) 64 m (i + 1) (total + ones)
+count-word t {i = i} c less e =
+    let from : i * 64 ≡ 64 * i = omega arith in
+    counted-turn c less (bit (getD t i 0)) e (λ k h. rw from (has-bit t i k h))
 
 -- and the lowest bit of a word from bit s on is the least number of the set from there
-pub word-none : (t : List ℕ) (i s low : ℕ) → low ≡ leastFrom (bit (getD t i 0)) s (64 - s) → s < 64
+word-none : (t : List ℕ) (i s low : ℕ) → low ≡ leastFrom (bit (getD t i 0)) s (64 - s) → s < 64
     → (j : ℕ) → 64 * i + s ≤ j → j < 64 * i + low → has t j ≡ false
 word-none t i s low e h j a b =
     let k : ℕ = j - 64 * i in
@@ -118,7 +119,7 @@ word-none t i s low e h j a b =
     let to = leastFrom-le (bit x) s (64 - s) in
     sym (ap (has t) q) ∙ has-bit t i k (omega (arith, e)) ∙ leastFrom-below (bit x) s (64 - s) k (omega arith) (omega (arith, e))
 
-pub word-has : (t : List ℕ) (i s low : ℕ) → low ≡ leastFrom (bit (getD t i 0)) s (64 - s) → s < 64 → low < 64
+word-has : (t : List ℕ) (i s low : ℕ) → low ≡ leastFrom (bit (getD t i 0)) s (64 - s) → s < 64 → low < 64
     → (s ≤ low) × (has t (64 * i + low) ≡ true)
 word-has t i s low e h l =
     let x : ℕ = getD t i 0 in (
@@ -127,9 +128,57 @@ word-has t i s low e h l =
     )
 
 -- the least number from `from` on, found by itself, is the least below an end where it is below that, and else there is none below it
-pub least-capped : (f : ℕ → Bool) (from end n : ℕ) → from ≤ end → from ≤ n → f n ≡ true → ((j : ℕ) → from ≤ j → j < n → f j ≡ false)
+least-capped : (f : ℕ → Bool) (from end n : ℕ) → from ≤ end → from ≤ n → f n ≡ true → ((j : ℕ) → from ≤ j → j < n → f j ≡ false)
     → min n end ≡ leastFrom f from (end - from)
 least-capped f from end n h l t none = elim (decLt n end) [
   | yes y ↦ omega (arith, leastFrom-is f from (end - from) n l (omega arith) t none)
   | no g ↦ omega (arith, leastFrom-none f from (end - from) (λ j a b. none j a (omega arith)))
 ]
+
+-- A search word by word: no number from `from` on and before the word is in the set
+
+pub record Searched (t : List ℕ) (from word : ℕ) : Type 0 where
+  pub after : from ≤ 64 * word
+  pub within : word ≤ words
+  pub none : (j : ℕ) → from ≤ j → j < 64 * word → has t j ≡ false
+
+-- the first word is searched from the bit of `from` on
+module _ (t : List ℕ) {from end : ℕ} (range : from < end) {low : ℕ}
+    (lowest : low ≡ leastFrom (bit (getD t (from / 64) 0)) (from % 64) (64 - from % 64)) where
+  below : (j : ℕ) → from ≤ j → j < 64 * (from / 64) + low → has t j ≡ false
+  below j l u = word-none t (from / 64) (from % 64) low lowest (omega arith) j (omega arith) u
+
+  pub search-first : low < 64 → min (64 * (from / 64) + low) end ≡ nextIn t from end
+  search-first some =
+      let found = word-has t (from / 64) (from % 64) low lowest (omega arith) some in
+      least-capped (has t) from end (64 * (from / 64) + low) (omega arith) (omega arith) (found .1) below
+
+  pub search-start : end ≤ setBits → 64 ≤ low → Searched t from (from / 64 + 1)
+  search-start fits none = record { after = omega arith; within = omega arith; none = λ j l u. below j l (omega arith) }
+
+module _ {t : List ℕ} {from word : ℕ} (s : Searched t from word) {end : ℕ} where
+  pub search-here : from ≤ end → {z : ℕ} → (z ≡ least (bit (getD t word 0)) 64) × (z < 64) → min (64 * word + z) end ≡ nextIn t from end
+  search-here range {z} lowest =
+      least-capped (has t) from end (64 * word + z) range (omega (arith, s .after)) (word-has t word 0 z (lowest .0) (omega arith) (lowest .1) .1)
+      (λ j l u. elim (decLt j (64 * word)) [
+        | yes b ↦ s .none j l b
+        | no g ↦ word-none t word 0 z (lowest .0) (omega arith) j (omega arith) u
+      ])
+
+  pub search-turn : end ≤ setBits → 64 * word < end → getD t word 0 ≡ 0 → Searched t from (word + 1)
+  search-turn fits less empty =
+      record {
+        after = omega (arith, s .after);
+        within = omega arith;
+        none =
+            λ j l u. elim (decLt j (64 * word)) [
+              | yes b ↦ s .none j l b
+              | no g ↦
+                  let k : ℕ = j - 64 * word in
+                  let q : 64 * word + k ≡ j = omega arith in
+                  sym (ap (has t) q) ∙ has-bit t word k (omega arith) ∙ ap (λ (x : ℕ). bit x k) empty ∙ bit-zero k
+            ];
+      }
+
+  pub search-last : from ≤ end → end ≤ 64 * word → end ≡ nextIn t from end
+  search-last range all = sym (leastFrom-none (has t) from (end - from) (λ j l u. s .none j l (omega arith)) ∙ omega arith)

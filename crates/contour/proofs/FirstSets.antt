@@ -40,7 +40,7 @@ module _ (L : Layer) (sound : Sound L) (s : List ℕ) (set : FirstSet L s) where
   -- The set has as many numbers as the layer has contours
 
   count-to : (n : ℕ) → kindStart (L .size) true ≤ n → count isFirst n ≡ count isFirst (kindStart (L .size) true)
-  count-to n l = count-past isFirst (kindStart (L .size) true) n l none-past
+  count-to n l = count-past isFirst (kindStart (L .size) true) n l (λ j h _. none-past j h)
 
   pub set-count : memberCount s ≡ contourCount L
   set-count =

@@ -14,5 +14,6 @@ pub mod Theorems
 pub mod Examples
 pub mod Bytes
 pub mod Scans
+pub mod Scanning
 pub mod FirstSets
 pub mod Cursors

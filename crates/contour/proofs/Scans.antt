@@ -16,12 +16,13 @@ use Rattle.grid.specs.Questions.{Sized, Sound}
 use Rattle.grid.specs.declared.layer.Size.{Size}
 use Rattle.grid.specs.declared.edge.Edge.{Edge}
 use Rattle.grid.proofs.Numbers.{in-grid, kind-below, edgeAt-number}
+use Rattle.step.proofs.Walks.{stick-within}
 use Rattle.contour.specs.Walk.{first}
 use Rattle.contour.specs.Contours.{walkOf, contourOf}
 use Rattle.bitset.specs.Sets.{words, setBits, has, Empty}
 use Rattle.contour.specs.Sets.{FirstSet}
 use Rattle.bitset.specs.Sets.{withNumber, withoutNumber}
-use Rattle.contour.specs.Marking.{markEdge, horizontal, Scanned}
+use Rattle.contour.specs.Marking.{markEdge, Markable, horizontal, Scanned, ScannedTo, ScannedAt}
 use Rattle.contour.proofs.Members.{on-one}
 use Rattle.contour.proofs.Sticks.{laws}
 use Rattle.contour.proofs.Horizontal.{horizontal-low, first-horizontal}
@@ -85,96 +86,124 @@ module _ (L : Layer) (sound : Sound L) where
       (λ v. rw (mark-vertical (L .size) t e v) sized)
       (λ f. rw (mark-horizontal (L .size) t e f) (length-with t (number (L .size) e) sized (place-below e h f)))
 
-  -- One step of the scan, at the stick e
+-- One step of the scan, at the stick at column c of row r
 
-  module _ (e : Edge) (stick : isStick L e ≡ true) (f : e .vertical ≡ false) (p : ℕ) (is-p : p ≡ number (L .size) e) (t : List ℕ) (scanned : Scanned L p t) where
-    at-p : edgeAt (L .size) p ≡ e
-    at-p = ap (edgeAt (L .size)) is-p ∙ laws L sound .at-number e stick
+module _ {L : Layer} {c r : ℕ} {t : List ℕ} (here : ScannedAt L c r t) where
+  abbrev here-sound : Sound L
+  here-sound = here .scanned .sound
 
-    less : p < edgeCount (L .size)
-    less = rw is-p (laws L sound .number-less e stick)
+  abbrev e : Edge
+  e = record { vertical = false; column = c; row = r }
 
-    fits : p < setBits
-    fits = rw is-p (place-below e stick f)
+  abbrev p : ℕ
+  p = r * (L .size .width - 1) + c
 
-    carried : horizontal (edgeAt (L .size) p) ≡ true
-    carried = ap horizontal at-p ∙ ap not f
+  is-p : number (L .size) e ≡ p
+  is-p = horizontal-number (L .size) e refl
 
-    -- its bit is set: it is cleared
-    pub scan-set : has t p ≡ true → Scanned L (p + 1) (withoutNumber t p)
-    scan-set h = record {
-      sized = length-without t p (scanned .sized) fits;
-      marked =
-          mark-passed (walkOf L) (laws L sound) horizontal p (has t) less (scanned .marked) (has (withoutNumber t p))
-          (mark-set (walkOf L) (laws L sound) horizontal p (has t) less (scanned .marked) carried h)
-          (λ c. has-without t p (scanned .sized) fits h)
-          (λ k b c n. has-without-other t p (scanned .sized) fits k n);
-      above = λ k l. has-without-other t p (scanned .sized) fits k (omega (arith, horizontal-low L sound e stick f)) ∙ scanned .above k l;
-    }
+  at-p : edgeAt (L .size) p ≡ e
+  at-p = rw is-p at (laws L here-sound .at-number e (here .stick))
 
-    -- its bit is clear: its contour is marked
-    pub scan-clear : has t p ≡ false → Scanned L (p + 1) (foldl (markEdge (L .size)) t (contourOf L e))
-    scan-clear h =
-        let law = laws L sound in
-        let is-first = mark-clear (walkOf L) law horizontal p (has t) less (scanned .marked) carried (ap (isStick L) at-p ∙ stick) h in
-        let kept : Kept L (foldl (markEdge (L .size)) t (contourOf L e)) =
-        bits-ok (walkOf L) law horizontal marks (contourOf L e) t (λ y o. on-one (walkOf L) law e y stick o) (scanned .sized, scanned .above) in
-        record {
-          sized = kept .0;
-          marked = rw at-p at (mark-contour (walkOf L) law horizontal marks p t less (scanned .sized, scanned .above) is-first (scanned .marked));
-          above = kept .1;
-        }
+  less : p < edgeCount (L .size)
+  less = rw is-p at (laws L here-sound .number-less e (here .stick))
 
-  -- Where no stick is, the scan goes on with nothing done
+  pub here-fits : p < setBits
+  here-fits = rw is-p at (place-below L here-sound e (here .stick) refl)
 
-  pub same-place : {p q : ℕ} {t : List ℕ} → p ≡ q → Scanned L p t → Scanned L q t
-  same-place {p} {q} {t} e s = subst (λ (k : ℕ). Scanned L k t) e s
+  pub here-column : c < 1023
+  here-column = omega (arith, stick-within L here-sound e (here .stick) .column-below, here-sound .whole .sized .narrow)
 
-  edge-at : (c r : ℕ) → c < L .size .width - 1 → r < L .size .height
-      → edgeAt (L .size) (r * (L .size .width - 1) + c) ≡ record { vertical = false; column = c; row = r }
-  edge-at c r hc hr =
-      let e : Edge = record { vertical = false; column = c; row = r } in
-      let within = in-grid (L .size) e (record { column-below = hc; row-below = hr }) in
-      sym (ap (edgeAt (L .size)) (horizontal-number (L .size) e refl)) ∙ edgeAt-number (L .size) (sound .whole .sized) e within
+  pub here-markable : Markable L t e
+  here-markable = record { sound = here-sound; stick = here .stick; sized = here .scanned .sized }
 
-  -- from column c of a row to column d, where the row has W - 1 edges
-  pub scan-skip : (r c d : ℕ) (t : List ℕ) → r < L .size .height → c ≤ d
-      → ((k : ℕ) → c ≤ k → k < d → isStick L (record { vertical = false; column = k; row = r }) ≡ false)
-      → Scanned L (r * (L .size .width - 1) + min c (L .size .width - 1)) t
-      → Scanned L (r * (L .size .width - 1) + min d (L .size .width - 1)) t
-  scan-skip r c d t hr l none s =
+  carried : horizontal (edgeAt (L .size) p) ≡ true
+  carried = ap horizontal at-p
+
+  -- its bit is set: it is cleared
+  pub scan-set : has t p ≡ true → Scanned L (p + 1) (withoutNumber t p)
+  scan-set h =
+      let law = laws L here-sound in
+      let s = here .scanned in
       record {
-        sized = s .sized;
+        sound = s .sound;
+        sized = length-without t p (s .sized) here-fits;
         marked =
-            mark-skip (walkOf L) (laws L sound) horizontal (base + min c m) (base + min d m) (has t) (omega arith)
-            (omega (arith, rows, kind-below (L .size) (sound .whole .sized) false)) clear (s .marked);
-        above = s .above;
+            mark-passed (walkOf L) law horizontal p (has t) less (s .marked) (has (withoutNumber t p))
+            (mark-set (walkOf L) law horizontal p (has t) less (s .marked) carried h)
+            (λ _. has-without t p (s .sized) here-fits h)
+            (λ k b _ n. has-without-other t p (s .sized) here-fits k n);
+        above = λ k l. has-without-other t p (s .sized) here-fits k (omega (arith, is-p, horizontal-low L here-sound e (here .stick) refl)) ∙ s .above k l;
       }
-    where
-      m : ℕ
-      m = L .size .width - 1
 
-      base : ℕ
-      base = r * (L .size .width - 1)
+  -- its bit is clear: its contour is marked
+  pub scan-clear : has t p ≡ false → Scanned L (p + 1) (foldl (markEdge (L .size)) t (contourOf L e))
+  scan-clear h =
+      let law = laws L here-sound in
+      let s = here .scanned in
+      let is-first = mark-clear (walkOf L) law horizontal p (has t) less (s .marked) carried (ap (isStick L) at-p ∙ here .stick) h in
+      let kept : Kept L (foldl (markEdge (L .size)) t (contourOf L e)) =
+      bits-ok (walkOf L) law horizontal (marks L here-sound) (contourOf L e) t (λ y o. on-one (walkOf L) law e y (here .stick) o) (s .sized, s .above) in
+      record {
+        sound = s .sound;
+        sized = kept .0;
+        marked = rw at-p at (mark-contour (walkOf L) law horizontal (marks L here-sound) p t less (s .sized, s .above) is-first (s .marked));
+        above = kept .1;
+      }
 
-      rows : (r + 1) * (L .size .width - 1) ≤ L .size .height * (L .size .width - 1)
-      rows = mul-le-mul {n₁ = r + 1} {m₁ = L .size .width - 1} {n₂ = L .size .height} {m₂ = L .size .width - 1} (omega arith) (omega arith)
+-- Where no stick is, the scan goes on with nothing done
 
-      clear : (j : ℕ) → base + min c m ≤ j → j < base + min d m → isStick L (edgeAt (L .size) j) ≡ false
-      clear j a b =
-          let k : ℕ = j - base in
-          let e : base + k ≡ j = omega arith in
-          rw e at (ap (isStick L) (edge-at k r (omega arith) hr) ∙ none k (omega arith) (omega arith))
+pub same-place : {L : Layer} {p q : ℕ} {t : List ℕ} → p ≡ q → Scanned L p t → Scanned L q t
+same-place {L} {p} {q} {t} e s = subst (λ (k : ℕ). Scanned L k t) e s
 
-  pub stick-place : (c r : ℕ) → isStick L (record { vertical = false; column = c; row = r }) ≡ true → r * (L .size .width - 1) + c < setBits
-  stick-place c r h =
-      let e : Edge = record { vertical = false; column = c; row = r } in
-      rw (horizontal-number (L .size) e refl) at (place-below e h refl)
+edge-at : (size : Size) → Sized size → (c r : ℕ) → c < size .width - 1 → r < size .height
+    → edgeAt size (r * (size .width - 1) + c) ≡ record { vertical = false; column = c; row = r }
+edge-at size sized c r hc hr =
+    let e : Edge = record { vertical = false; column = c; row = r } in
+    let within = in-grid size e (record { column-below = hc; row-below = hr }) in
+    sym (ap (edgeAt size) (horizontal-number size e refl)) ∙ edgeAt-number size sized e within
 
+-- from column c of a row to column d, where the row has W - 1 edges
+pub scan-skip : {L : Layer} {r c : ℕ} {t : List ℕ} → ScannedTo L r c t → (d : ℕ) → c ≤ d
+    → ((k : ℕ) → c ≤ k → k < d → isStick L (record { vertical = false; column = k; row = r }) ≡ false) → ScannedTo L r d t
+scan-skip {L} {r} {c} {t} to d l none =
+    let s = to .scanned in
+    record {
+      row-below = to .row-below;
+      scanned =
+          record {
+            sound = s .sound;
+            sized = s .sized;
+            marked =
+                mark-skip (walkOf L) (laws L (s .sound)) horizontal (base + min c m) (base + min d m) (has t) (omega arith)
+                (omega (arith, rows, kind-below (L .size) (s .sound .whole .sized) false)) clear (s .marked);
+            above = s .above;
+          };
+    }
+  where
+    m : ℕ
+    m = L .size .width - 1
+
+    base : ℕ
+    base = r * (L .size .width - 1)
+
+    rows : (r + 1) * (L .size .width - 1) ≤ L .size .height * (L .size .width - 1)
+    rows =
+        mul-le-mul {n₁ = r + 1} {m₁ = L .size .width - 1} {n₂ = L .size .height} {m₂ = L .size .width - 1}
+        (omega (arith, to .row-below)) (omega arith)
+
+    clear : (j : ℕ) → base + min c m ≤ j → j < base + min d m → isStick L (edgeAt (L .size) j) ≡ false
+    clear j a b =
+        let k : ℕ = j - base in
+        let e : base + k ≡ j = omega arith in
+        let sized = to .scanned .sound .whole .sized in
+        rw e at (ap (isStick L) (edge-at (L .size) sized k r (omega arith) (to .row-below)) ∙ none k (omega arith) (omega arith))
+
+module _ (L : Layer) (sound : Sound L) where
   -- The scan starts with an empty set,
 
   pub scan-start : (t : List ℕ) → Empty t → Scanned L 0 t
   scan-start t empty = record {
+    sound = sound;
     sized = empty .sized;
     marked = mark-start (walkOf L) (laws L sound) horizontal (has t) (λ k b c. clear k);
     above = λ k l. clear k;

@@ -12,17 +12,14 @@ use grid::stride_of;
 use mask::stick_byte;
 use step::next_stick;
 ghost use mathlib.Core.Path.{_≡_};
-ghost use mathlib.Core.Bool.{true, false};
 ghost use mathlib.Core.List.{foldl};
-ghost use Prim.Native.Nat.{_+_, _-_, _*_, _<_, min};
-ghost use lib.ListN.{length};
+ghost use Prim.Native.Nat.{_+_, _-_, _*_, _<_};
 ghost use Rattle.grid.specs.Layer.{layerOf, stride};
-ghost use Rattle.grid.specs.Edges.{isStick};
 ghost use Rattle.grid.specs.Questions.{Sound};
 ghost use Rattle.contour.specs.Contours.{contourOf};
-ghost use Rattle.bitset.specs.Sets.{words, Empty};
+ghost use Rattle.bitset.specs.Sets.{Empty};
 ghost use Rattle.contour.specs.Sets.{FirstSet};
-ghost use Rattle.contour.specs.Marking.{markEdge, Scanned};
+ghost use Rattle.contour.specs.Marking.{markEdge, Markable, Scanned, ScannedTo, ScannedAt};
 
 fn widen(x: u8) -> u64
     ensures { λ r. ⌜ r ≡ x ⌝ }
@@ -33,9 +30,7 @@ fn widen(x: u8) -> u64
 
 // Sets the bit of each horizontal stick on the contour that starts at `first`.
 fn mark_contour(size: Size, bitmap: &[u8], set: &mut EdgeSet, first: Edge)
-    requires { ⌜ Sound (layerOf size (now bitmap)) ⌝ }
-    requires { ⌜ isStick (layerOf size (now bitmap)) first ≡ true ⌝ }
-    requires { ⌜ length (now set) ≡ words ⌝ }
+    requires { ⌜ Markable (layerOf size (now bitmap)) (now set) first ⌝ }
     ensures { λ r. ⌜ now (set .exit) ≡ foldl (markEdge size) (now (set .entry)) (contourOf (layerOf size (now (bitmap .entry))) first) ⌝ }
 {
     let mut e = first;
@@ -52,9 +47,7 @@ fn mark_contour(size: Size, bitmap: &[u8], set: &mut EdgeSet, first: Edge)
 
 // One step of the scan, at a horizontal stick.
 fn scan_stick(size: Size, bitmap: &[u8], set: &mut EdgeSet, column: usize, row: usize)
-    requires { ⌜ Sound (layerOf size (now bitmap)) ⌝ }
-    requires { ⌜ isStick (layerOf size (now bitmap)) (record { vertical = false; column = column; row = row }) ≡ true ⌝ }
-    requires { ⌜ Scanned (layerOf size (now bitmap)) (row * (size .width - 1) + column) (now set) ⌝ }
+    requires { ⌜ ScannedAt (layerOf size (now bitmap)) column row (now set) ⌝ }
     ensures { λ r. ⌜ Scanned (layerOf size (now (bitmap .entry))) (row * (size .width - 1) + column + 1) (now (set .exit)) ⌝ }
 {
     let n = row * (size.width - 1) + column;
@@ -76,11 +69,9 @@ fn scan_stick(size: Size, bitmap: &[u8], set: &mut EdgeSet, column: usize, row: 
 
 // The edges of a row in the columns 8 × at to 8 × at + 7: from stick to stick, so a byte without one costs nothing more.
 fn scan_byte(size: Size, bitmap: &[u8], set: &mut EdgeSet, at: usize, row: usize)
-    requires { ⌜ Sound (layerOf size (now bitmap)) ⌝ }
     requires { ⌜ at < stride size ⌝ }
-    requires { ⌜ row < size .height ⌝ }
-    requires { ⌜ Scanned (layerOf size (now bitmap)) (row * (size .width - 1) + min (8 * at) (size .width - 1)) (now set) ⌝ }
-    ensures { λ r. ⌜ Scanned (layerOf size (now (bitmap .entry))) (row * (size .width - 1) + min (8 * (at + 1)) (size .width - 1)) (now (set .exit)) ⌝ }
+    requires { ⌜ ScannedTo (layerOf size (now bitmap)) row (8 * at) (now set) ⌝ }
+    ensures { λ r. ⌜ ScannedTo (layerOf size (now (bitmap .entry))) row (8 * (at + 1)) (now (set .exit)) ⌝ }
 {
     let mut left = widen(stick_byte(size, bitmap, false, at, row));
     let mut column = 8 * at;
@@ -93,9 +84,7 @@ fn scan_byte(size: Size, bitmap: &[u8], set: &mut EdgeSet, at: usize, row: usize
 }
 
 fn scan_row(size: Size, bitmap: &[u8], set: &mut EdgeSet, row: usize)
-    requires { ⌜ Sound (layerOf size (now bitmap)) ⌝ }
-    requires { ⌜ row < size .height ⌝ }
-    requires { ⌜ Scanned (layerOf size (now bitmap)) (row * (size .width - 1)) (now set) ⌝ }
+    requires { ⌜ ScannedTo (layerOf size (now bitmap)) row 0 (now set) ⌝ }
     ensures { λ r. ⌜ Scanned (layerOf size (now (bitmap .entry))) ((row + 1) * (size .width - 1)) (now (set .exit)) ⌝ }
 {
     let bytes = stride_of(size);

@@ -3,4 +3,5 @@ pub mod Samples
 pub mod Borders
 pub mod Numbers
 pub mod Answers
+pub mod Asking
 pub mod Bits

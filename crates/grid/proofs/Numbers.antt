@@ -62,6 +62,9 @@ module _ (size : Size) (sized : Sized size) where
       let q = mul-le-mul {n₁ = size .width} {m₁ = size .height - 1} {n₂ = 1024} {m₂ = 1023} (omega (arith, sized)) (omega (arith, sized)) in
       omega arith
 
+  pub samples-small : size .height * size .width ≤ 1048576
+  samples-small = mul-le-mul {n₁ = size .height} {m₁ = size .width} {n₂ = 1024} {m₂ = 1024} (sized .low) (sized .narrow)
+
   pub rows-small : (v : Bool) (r : ℕ) → r ≤ edgeRows size v → (r ≤ 1024) × (r * edgeColumns size v ≤ 2095104)
   rows-small v r h =
       let m = mul-le-mul {n₁ = r} {m₁ = edgeColumns size v} {n₂ = edgeRows size v} {m₂ = edgeColumns size v} h (omega arith) in

@@ -1,10 +1,8 @@
 -- `sticks_in_row` meets its contract. The invariant: the total is that of the bytes passed.
-use mathlib.Core.Path.{_≡_, ap, ap₂, sym, _∙_}
-use Prim.Native.Nat.{ℕ, _+_, _-_, _*_, _≤_}
+use Prim.Native.Nat.{_-_, _<_}
 use native.Mathlib.Omega.{arith}
 use borrow.Author.Needs.{needs}
-use Rattle.arith.specs.Ranges.{count}
-use Rattle.arith.proofs.Ranges.{count-zero, count-le}
+use Rattle.arith.proofs.Counting.{CountedTo, counted-none, counted-room}
 use Rattle.grid.specs.Layer.{layerOf, stride}
 use Rattle.grid.specs.Edges.{stickIn}
 use Rattle.mask.proofs.Ones.{sticks-byte, sticks-row}
@@ -12,54 +10,39 @@ use Rattle.mask.proofs.count.sticks_in_row.Statement.{statement}
 use Rattle.mask.proofs.count.sticks_in_row.Tie as tie
 
 abbrev Inv-loop : tie.InvT-loop
-Inv-loop size bitmap vertical row bytes total₀ at₀ total at = (at ≤ stride size) × (total ≡ count (stickIn (layerOf size bitmap) vertical row) (8 * at))
+Inv-loop size bitmap vertical row bytes total₀ at₀ total at = CountedTo (stickIn (layerOf size bitmap) vertical row) 8 (stride size) at total
 
 abbrev μ-loop : tie.MeasureT-loop
 μ-loop size bitmap vertical row bytes total₀ at₀ total at = bytes - at
 
-loop-holds : tie.Need-loop-holds Inv-loop μ-loop
-loop-holds c = (omega arith, count-zero _)
+abbrev start : tie.At-loop Inv-loop μ-loop → tie.Start Inv-loop μ-loop
+start c = c .before .before .before
 
-stick-byte-requires : tie.Need-stick-byte-requires Inv-loop μ-loop
-stick-byte-requires c κs =
-    let start = c .before .before .before .before in
-    let e = c .before .before .stride-of .ensures in (start .pre .0, (omega arith, start .pre .1))
+less : (c : tie.In-loop Inv-loop μ-loop) → c .before .loop .at < stride (start (c .before) .args .size)
+less c = rw (c .before .before .stride-of .ensures) at (c .loop-test .taken)
 
 add-total : tie.Need-add-total Inv-loop μ-loop
 add-total c =
-    let start = c .before .before .before .before .before .before in
-    let loop = c .before .before .before .loop in
-    let a = start .args in
-    let L = layerOf (a .size) (a .bitmap .now) in
-    let given = start .pre in
-    let e = loop .inv .1 in omega (arith, count-le (stickIn L (a .vertical) (a .row)) (8 * loop .at), c .ones-of .ensures .1)
+    let turn = c .before .before in
+    omega (arith, counted-room (turn .before .loop .inv) (less turn) _ (c .ones-of .ensures .0), start (turn .before) .pre .0 .whole .sized)
 
 loop-again : tie.Need-loop-again Inv-loop μ-loop
 loop-again c =
-    let start = c .before .before .before .before .before .before in
-    let loop = c .before .before .before .loop in
-    let stick-byte = c .before .stick-byte in
-    let a = start .args in
-    let L = layerOf (a .size) (a .bitmap .now) in
-    let given = start .pre in
-    let e = c .before .before .before .before .stride-of .ensures in (
-      omega arith,
-      ap₂ _+_ (loop .inv .1) (c .ones-of .ensures .0)
-          ∙ sym (sticks-byte L (given .0) (a .vertical) (loop .at) (a .row) (stick-byte .result) (stick-byte .ensures)),
-    )
+    let turn = c .before .before in
+    let a = start (turn .before) .args in
+    sticks-byte (start (turn .before) .pre .0) (a .vertical) (a .row) (turn .before .loop .inv) (less turn) (c .before .stick-byte .ensures)
+    (c .ones-of .ensures .0)
 
 returns : tie.Need-returns Inv-loop μ-loop
 returns c =
-    let start = c .before .before .before .before in
-    let loop = c .before .loop in
-    let a = start .args in
-    let L = layerOf (a .size) (a .bitmap .now) in
-    let given = start .pre in
-    let whole : loop .at ≡ stride (a .size) = let e = c .before .before .stride-of .ensures in omega arith in
-    loop .inv .1 ∙ ap (λ (n : ℕ). count (stickIn L (a .vertical) (a .row)) (8 * n)) whole ∙ sticks-row L (given .0) (a .vertical) (a .row)
+    let at-loop = c .before in
+    let a = start at-loop .args in
+    let bytes = at-loop .before .stride-of .ensures in
+    sticks-row (start at-loop .pre .0) (a .vertical) (a .row) (at-loop .loop .inv) (omega arith)
 
 pub sticks-in-row-spec : {M : Type 1} → statement M
 sticks-in-row-spec =
     tie.close
-    (tie.spec Inv-loop μ-loop (λ c κs. search needs) loop-holds stick-byte-requires (λ c κs. search needs) add-total (λ c. search needs)
+    (tie.spec Inv-loop μ-loop (λ c κs. search needs) (λ c. counted-none)
+    (λ c κs. let given = start (c .before) .pre in (given .0, (less c, given .1))) (λ c κs. search needs) add-total (λ c. search needs)
     (λ c. search needs) loop-again returns)
