@@ -19,8 +19,8 @@ pub lent-row : {L : Layer} {t : List ℕ} {v : Bool} {rows r : ℕ} → Lent L t
 lent-row given high below = record { sound = given .sound; exact = given .exact; row = omega arith }
 
 -- how many edges a kind has, at most
-pub kind-few : {L : Layer} {t : List ℕ} (v : Bool) {rows columns : ℕ} → Lent L t → rows ≡ edgeRows (L .size) v → columns ≡ edgeColumns (L .size) v
-    → rows * columns ≤ 2095104
+pub kind-few : {L : Layer} {t : List ℕ} (v : Bool) {rows columns : ℕ} → Lent L t → rows ≡ edgeRows (L .size) v
+    → columns ≡ edgeColumns (L .size) v → rows * columns ≤ 2095104
 kind-few {L} v given high wide =
     rw (high, wide) (rows-small (L .size) (given .sound .whole .sized) v (edgeRows (L .size) v) (omega arith) .1)
 

@@ -18,43 +18,42 @@ abbrev μ-loop : tie.MeasureT-loop
 abbrev start : tie.At-loop Inv-loop μ-loop → tie.Start Inv-loop μ-loop
 start c = c .before .before .before .before .before
 
+abbrev at-loop : tie.After-run-length Inv-loop μ-loop → tie.At-loop Inv-loop μ-loop
+at-loop c = c .before .before .before
+
 here : (c : tie.After-run-length Inv-loop μ-loop)
-    → let at-loop = c .before .before .before in
-    let a = start at-loop .args in
-    Piece (layerOf (a .size) (a .bitmap .now)) (a .vertical) (a .row) (at-loop .loop .at) (at-loop .before .row-start .result)
+    → let a = start (at-loop c) .args in
+    Piece (layerOf (a .size) (a .bitmap .now)) (a .vertical) (a .row) (at-loop c .loop .at) (at-loop c .before .row-start .result)
     (c .before .stick-byte .result) (c .run-length .result)
 here c =
-    let entered = c .before .before .before .before in
+    let entered = at-loop c .before in
     piece (entered .before .edge-columns .ensures) (entered .row-start .ensures) (c .before .stick-byte .ensures) (c .run-length .ensures)
 
 stick-byte-requires : tie.Need-stick-byte-requires Inv-loop μ-loop
 stick-byte-requires c κs =
-    let at-loop = c .before in
-    piece-asked (at-loop .before .before .edge-columns .ensures) (start at-loop .pre) (c .loop-test .taken)
+    let top = c .before in piece-asked (top .before .before .edge-columns .ensures) (start top .pre) (c .loop-test .taken)
 
 add-first-wrong-fast : tie.Need-add-first-wrong-fast Inv-loop μ-loop
-add-first-wrong-fast c = omega (arith, run-low (start (c .before .before .before) .pre) (here c))
+add-first-wrong-fast c = omega (arith, run-low (start (at-loop c) .pre) (here c))
 
 returns : tie.Need-returns Inv-loop μ-loop
 returns c =
     let ran = c .before .before in
-    row-found (ran .before .before .before .loop .inv) (here ran) (c .before .first-wrong-fast .ensures) (c .if1 .taken)
+    row-found (at-loop ran .loop .inv) (here ran) (c .before .first-wrong-fast .ensures) (c .if1 .taken)
 
 loop-again : tie.Need-loop-again Inv-loop μ-loop
 loop-again c =
     let ran = c .before .before in
-    let at-loop = ran .before .before .before in
-    row-turn (at-loop .loop .inv) (here ran) (c .before .first-wrong-fast .ensures) (start at-loop .pre) (c .if1 .left)
+    row-turn (at-loop ran .loop .inv) (here ran) (c .before .first-wrong-fast .ensures) (start (at-loop ran) .pre) (c .if1 .left)
 
 returns-2 : tie.Need-returns-2 Inv-loop μ-loop
 returns-2 c =
-    let at-loop = c .before in
-    row-end (at-loop .loop .inv) (at-loop .before .before .edge-columns .ensures) (c .loop-test .left)
+    let top = c .before in row-end (top .loop .inv) (top .before .before .edge-columns .ensures) (c .loop-test .left)
 
 pub wrong-in-row-spec : {M : Type 1} → statement M
 wrong-in-row-spec =
     tie.close
     (tie.spec Inv-loop μ-loop (λ c κs. search needs) (λ c κs. search needs) (λ c. row-begin) (λ c. search needs) stick-byte-requires
-    (λ c. search needs) (λ c κs. c .before .loop-test .taken) (λ c. search needs) add-first-wrong-fast
-    (λ c κs. lent-run (start (c .before .before .before) .pre) (here c)) (λ c. search needs) (λ c. search needs) returns (λ c. search needs)
+    (λ c. search needs) (λ c κs. search needs) (λ c. search needs) add-first-wrong-fast
+    (λ c κs. lent-run (start (at-loop c) .pre) (here c)) (λ c. search needs) (λ c. search needs) returns (λ c. search needs)
     (λ c. search needs) loop-again returns-2)
