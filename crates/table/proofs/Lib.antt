@@ -1,4 +1,6 @@
 -- Laws on the definitions of specs/ that the proofs of this crate and of the crates above it cite.
+pub mod Passing
+pub mod Pieces
 pub mod Runs
 pub mod Lengths
 pub mod Suits

@@ -1,97 +1,167 @@
--- The first wrong entry, found by runs of eight, by rows and by kinds, is the first by number.
-use mathlib.Core.Path.{_≡_, ap, ap₂, sym, _∙_}
+-- Question 6: the first wrong entry, found in runs of eight, by rows and by kinds, is the first by number. Each loop has its record of what was
+-- passed; a turn of it is a part of the search (proofs/Passing), whose test agrees with that of the whole on that part.
+use mathlib.Core.Path.{_≡_, refl, ap, ap₂, sym, _∙_}
 use mathlib.Core.Bool.{Bool, true, false}
 use mathlib.Core.List.{List}
 use Prim.Native.Nat.{ℕ, _+_, _*_, _≤_, _<_}
 use native.Mathlib.Omega.{arith}
-use native.Mathlib.Decide.{decLt}
-use native.Mathlib.Nat.{add-assoc}
+use native.Mathlib.Nat.{add-assoc, zero-add, mul-le-mul-right}
+use borrow.Author.Count.{below-more}
+use borrow.Author.Tests.{eqb-true}
 use lib.Arith.{digits-lt}
+use lib.Bits.{bitOr, or-add-and, and-le-l, and-le-r}
+use lib.Dec.{eqb}
 use lib.ListN.{getD}
 use Rattle.arith.specs.Ranges.{least}
-use Rattle.arith.proofs.Ranges.{least-is, leastFrom-holds, leastFrom-below, leastFrom-le, below-add}
+use Rattle.arith.proofs.Ranges.{least-none, leastFrom-le}
 use Rattle.grid.specs.Layer.{Layer}
-use Rattle.grid.specs.Edges.{edgeColumns, edgeRows, kindStart, rowStart, isStick, StickBits}
-use Rattle.grid.specs.Questions.{Sized}
-use Rattle.grid.proofs.Numbers.{edgeIn-at, edgeAt-kind}
-use Rattle.table.specs.Entries.{wrong, wrongAt, wrongOf, wrongIn, wrongFrom}
+use Rattle.grid.specs.Edges.{edgeColumns, edgeRows, edgeCount, kindStart, rowStart, isStick}
+use Rattle.grid.specs.declared.edge.Edge.{Edge}
+use Rattle.grid.specs.declared.question.Refusal.the-variants.{WrongEntry}
+use Rattle.grid.specs.declared.question.Answer.the-variants.{Yes, No}
+use Rattle.grid.proofs.Bits.{bit-past}
+use Rattle.grid.proofs.Numbers.{edgeIn-at, edgeAt-kind, edges-split, edges-small}
+use Rattle.table.specs.Entries.{entryOf, wrong, wrongAt, wrongOf, wrongIn, wrongFrom, entriesAnswer}
+use Rattle.table.specs.Lent.{Lent, LentRow}
+use Rattle.table.proofs.Passing.{Passed, passed-start, passed-end, passed-yes, part-passed, part-found, part-no}
+use Rattle.table.proofs.Pieces.{reached, Piece, pieces-few}
 
-module _ (L : Layer) (t : List ℕ) where
-  pub from-row : (v : Bool) (at r x : ℕ) → StickBits L v at r x → (b : ℕ) → b < 8
-      → wrongFrom t (rowStart (L .size) v r + 8 * at) x b ≡ wrongIn L t v r (8 * at + b)
-  from-row v at r x marks b h =
-      ap₂ wrong (marks .ones b h) (ap (λ (k : ℕ). getD t k 0) (add-assoc (rowStart (L .size) v r) (8 * at) b))
+-- Eight entries at once
 
-  pub row-kind : Sized (L .size) → (v : Bool) (r c : ℕ) → c < edgeColumns (L .size) v
-      → wrongIn L t v r c ≡ wrongOf L t v (r * edgeColumns (L .size) v + c)
-  row-kind sized v r c h =
-      let n = edgeColumns (L .size) v in
-      ap₂ wrong
-      (ap (isStick L) (sym (edgeIn-at (L .size) sized v c r h)))
-      (ap (λ (k : ℕ). getD t k 0) (add-assoc (kindStart (L .size) v) (r * n) c))
+-- the first b of them are 0 if `any`, their bitwise or, is
+pub record Zeros (t : List ℕ) (start any b : ℕ) : Type 0 where
+  pub few : b ≤ 8
+  pub all : any ≡ 0 → (k : ℕ) → k < b → getD t (start + k) 0 ≡ 0
 
-  pub kind-all : Sized (L .size) → (v : Bool) (k : ℕ) → k < edgeRows (L .size) v * edgeColumns (L .size) v
-      → wrongOf L t v k ≡ wrongAt L t (kindStart (L .size) v + k)
-  kind-all sized v k h =
-      ap (λ (b : Bool). wrong b (getD t (kindStart (L .size) v + k) 0)) (ap (isStick L) (sym (edgeAt-kind (L .size) sized v k h)))
+neither : (a b : ℕ) → bitOr a b ≡ 0 → (a ≡ 0) × (b ≡ 0)
+neither a b e = let sum = or-add-and a b in (omega (arith, and-le-r a b), omega (arith, and-le-l a b))
 
-  -- a run of eight in a row of which no entry before it is wrong: its first wrong entry is the row's, and if it has none, none up to its
-  -- end is wrong
-  module _ (v : Bool) (at r x n : ℕ) (marks : StickBits L v at r x) (small : n ≤ 8)
-      (before : (k : ℕ) → k < 8 * at → k < edgeColumns (L .size) v → wrongIn L t v r k ≡ false) where
-    abbrev run : ℕ → Bool
-    run = wrongFrom t (rowStart (L .size) v r + 8 * at) x
+module _ {t : List ℕ} {start : ℕ} where
+  pub zeros-start : Zeros t start 0 0
+  zeros-start = record { few = omega arith; all = λ e k h. absurd (omega arith) }
 
-    in-run : (b : ℕ) → b < 8 → b < least run n → wrongIn L t v r (8 * at + b) ≡ false
-    in-run b h l = sym (from-row v at r x marks b h) ∙ leastFrom-below run 0 n b (omega arith) l
+  pub zeros-turn : {any b : ℕ} → Zeros t start any b → b < 8 → Zeros t start (bitOr any (getD t (start + b) 0)) (b + 1)
+  zeros-turn {any} {b} z h = record {
+    few = omega arith;
+    all = λ e. let both = neither any (getD t (start + b) 0) e in
+        below-more (λ (k : ℕ). getD t (start + k) 0 ≡ 0) b (z .all (both .0)) (both .1);
+  }
 
-    pub run-found : 8 * at + n ≤ edgeColumns (L .size) v → (b : ℕ) → b ≡ least run n → b < n
-        → 8 * at + b ≡ least (wrongIn L t v r) (edgeColumns (L .size) v)
-    run-found fits b e h =
-        let here : run b ≡ true = rw (sym e) at (leastFrom-holds run 0 n (omega (arith, e))) in
-        sym (least-is (wrongIn L t v r) (edgeColumns (L .size) v) (8 * at + b) (omega arith)
-        (sym (from-row v at r x marks b (omega arith)) ∙ here)
-        (below-add (λ (k : ℕ). wrongIn L t v r k ≡ false) (8 * at) b (λ k l. before k l (omega arith)) (λ j l. in-run j (omega arith) (omega (arith, e)))))
+  pub zeros-all : {any b : ℕ} → Zeros t start any b → 8 ≤ b → eqb any 0 ≡ true → (k : ℕ) → k < 8 → getD t (start + k) 0 ≡ 0
+  zeros-all {any} z over e k h = z .all (eqb-true any 0 e) k (omega arith)
 
-    pub run-passed : (n < 8 → 8 * at + n ≡ edgeColumns (L .size) v) → n ≤ least run n
-        → (k : ℕ) → k < 8 * (at + 1) → k < edgeColumns (L .size) v → wrongIn L t v r k ≡ false
-    run-passed full none k h l =
-        below-add (λ (k : ℕ). k < edgeColumns (L .size) v → wrongIn L t v r k ≡ false) (8 * at) 8 before
-        (λ j lj within. in-run j lj (elim (decLt n 8) [ yes less ↦ omega (arith, full less) | no more ↦ omega arith ]))
-        k (omega arith) l
+-- none of them is wrong where there is no stick
+pub zeros-right : (t : List ℕ) (start : ℕ) {x n : ℕ} → x ≡ 0 → n ≡ 8 → ((k : ℕ) → k < 8 → getD t (start + k) 0 ≡ 0)
+    → 8 ≡ least (wrongFrom t start x) n
+unfolding entryOf
+zeros-right t start {x} none eight zero =
+    sym (ap (least (wrongFrom t start x)) eight
+    ∙ least-none (wrongFrom t start x) 8 (λ k h. rw (none, bit-past 0 0 k refl (omega arith), zero k h)))
 
-  -- the same for a row of a kind, and for a kind
-  module _ (sized : Sized (L .size)) (v : Bool) (r : ℕ) (row : r < edgeRows (L .size) v)
-      (before : (k : ℕ) → k < r * edgeColumns (L .size) v → wrongOf L t v k ≡ false) where
-    in-row : (c : ℕ) → c < edgeColumns (L .size) v → c < least (wrongIn L t v r) (edgeColumns (L .size) v)
-        → wrongOf L t v (r * edgeColumns (L .size) v + c) ≡ false
-    in-row c h l =
-        sym (row-kind sized v r c h) ∙ leastFrom-below (wrongIn L t v r) 0 (edgeColumns (L .size) v) c (omega arith) l
+-- A row, in pieces: no entry of those before piece `at` is wrong
 
-    pub row-found : (c : ℕ) → c ≡ least (wrongIn L t v r) (edgeColumns (L .size) v) → c < edgeColumns (L .size) v
-        → r * edgeColumns (L .size) v + c ≡ least (wrongOf L t v) (edgeRows (L .size) v * edgeColumns (L .size) v)
-    row-found c e h =
-        let n = edgeColumns (L .size) v in
-        let here : wrongIn L t v r c ≡ true = rw (sym e) at (leastFrom-holds (wrongIn L t v r) 0 n (omega (arith, e))) in
-        sym (least-is (wrongOf L t v) (edgeRows (L .size) v * n) (r * n + c) (digits-lt row h)
-        (sym (row-kind sized v r c h) ∙ here)
-        (below-add (λ (k : ℕ). wrongOf L t v k ≡ false) (r * n) c before (λ j l. in-row j (omega arith) (omega (arith, e)))))
+pub record RowPassed (L : Layer) (t : List ℕ) (v : Bool) (r at : ℕ) : Type 0 where
+  pub few : at ≤ 128
+  pub passed : Passed (wrongIn L t v r) (reached (L .size) v at)
 
-    pub row-passed : edgeColumns (L .size) v ≤ least (wrongIn L t v r) (edgeColumns (L .size) v)
-        → (k : ℕ) → k < (r + 1) * edgeColumns (L .size) v → wrongOf L t v k ≡ false
-    row-passed none k h =
-        let n = edgeColumns (L .size) v in
-        below-add (λ (k : ℕ). wrongOf L t v k ≡ false) (r * n) n before (λ j l. in-row j l (omega arith)) k (omega arith)
+module _ {L : Layer} {t : List ℕ} {v : Bool} {r : ℕ} where
+  pub row-begin : RowPassed L t v r 0
+  row-begin = record { few = omega arith; passed = record { none = λ j h. absurd (omega arith) } }
 
-  module _ (sized : Sized (L .size)) (v : Bool) where
-    abbrev of-kind : ℕ
-    of-kind = edgeRows (L .size) v * edgeColumns (L .size) v
+  module _ {at : ℕ} (so-far : RowPassed L t v r at) where
+    pub row-end : {columns : ℕ} → columns ≡ edgeColumns (L .size) v → columns ≤ 8 * at
+        → columns ≡ least (wrongIn L t v r) (edgeColumns (L .size) v)
+    row-end wide over = wide ∙ passed-end (so-far .passed) (omega arith)
 
-    pub kind-before : (j : ℕ) → j < least (wrongOf L t v) of-kind → wrongAt L t (kindStart (L .size) v + j) ≡ false
-    kind-before j h =
-        let within : j < of-kind = omega (arith, leastFrom-le (wrongOf L t v) 0 of-kind) in
-        sym (kind-all sized v j within) ∙ leastFrom-below (wrongOf L t v) 0 of-kind j (omega arith) h
+    module _ {start x n b : ℕ} (p : Piece L v r at start x n) (e : b ≡ least (wrongFrom t (start + 8 * at) x) n) where
+      before : Passed (wrongIn L t v r) (8 * at)
+      before = rw (p .from) (so-far .passed)
 
-    pub kind-found : (k : ℕ) → k ≡ least (wrongOf L t v) of-kind → k < of-kind → wrongAt L t (kindStart (L .size) v + k) ≡ true
-    kind-found k e h =
-        sym (kind-all sized v k h) ∙ rw (sym e) at (leastFrom-holds (wrongOf L t v) 0 of-kind (omega (arith, e)))
+      run-same : (j : ℕ) → j < n → wrongFrom t (start + 8 * at) x j ≡ wrongIn L t v r (8 * at + j)
+      run-same j h =
+          ap₂ wrong (p .marks .ones j (omega (arith, p .small)))
+          (ap (λ (k : ℕ). getD t k 0) (rw (p .starts) (add-assoc (rowStart (L .size) v r) (8 * at) j)))
+
+      pub row-found : b < n → 8 * at + b ≡ least (wrongIn L t v r) (edgeColumns (L .size) v)
+      row-found h = part-found before (wrongFrom t (start + 8 * at) x) run-same e h (omega (arith, p .fits))
+
+      pub row-turn : LentRow L t v r → n ≤ b → RowPassed L t v r (at + 1)
+      row-turn given over = record {
+        few = pieces-few given p;
+        passed = rw (p .to) at (part-passed before (wrongFrom t (start + 8 * at) x) run-same e over);
+      }
+
+-- A kind, by rows: no entry of those before row r is wrong
+
+pub record KindPassed (L : Layer) (t : List ℕ) (v : Bool) (r : ℕ) : Type 0 where
+  pub passed : Passed (wrongOf L t v) (r * edgeColumns (L .size) v)
+
+module _ {L : Layer} {t : List ℕ} {v : Bool} where
+  pub kind-begin : KindPassed L t v 0
+  kind-begin = record { passed = record { none = λ j h. absurd (omega arith) } }
+
+  module _ {r : ℕ} (so-far : KindPassed L t v r) {columns : ℕ} (wide : columns ≡ edgeColumns (L .size) v) where
+    pub kind-end : {rows : ℕ} → rows ≡ edgeRows (L .size) v → rows ≤ r
+        → rows * columns ≡ least (wrongOf L t v) (edgeRows (L .size) v * edgeColumns (L .size) v)
+    kind-end high over = rw (high, wide) (passed-end (so-far .passed) (mul-le-mul-right (edgeColumns (L .size) v) (omega arith)))
+
+    module _ (given : LentRow L t v r) {c : ℕ} (e : c ≡ least (wrongIn L t v r) (edgeColumns (L .size) v)) where
+      row-same : (j : ℕ) → j < edgeColumns (L .size) v → wrongIn L t v r j ≡ wrongOf L t v (r * edgeColumns (L .size) v + j)
+      row-same j h =
+          ap₂ wrong
+          (ap (isStick L) (sym (edgeIn-at (L .size) (given .sound .whole .sized) v j r h)))
+          (ap (λ (k : ℕ). getD t k 0) (add-assoc (kindStart (L .size) v) (r * edgeColumns (L .size) v) j))
+
+      pub kind-found : c < columns → r * columns + c ≡ least (wrongOf L t v) (edgeRows (L .size) v * edgeColumns (L .size) v)
+      kind-found h =
+          let below : c < edgeColumns (L .size) v = omega arith in
+          rw wide (part-found (so-far .passed) (wrongIn L t v r) row-same e below (digits-lt (given .row) below))
+
+      pub kind-turn : columns ≤ c → KindPassed L t v (r + 1)
+      kind-turn over =
+          let next : r * edgeColumns (L .size) v + edgeColumns (L .size) v ≡ (r + 1) * edgeColumns (L .size) v = omega arith in
+          record { passed = rw next at (part-passed (so-far .passed) (wrongIn L t v r) row-same e (omega arith)) }
+
+-- Both kinds: the horizontal edges come first, and there are `start` of them
+
+module _ {L : Layer} {t : List ℕ} (given : Lent L t) where
+  abbrev edges : Bool → ℕ
+  edges v = edgeRows (L .size) v * edgeColumns (L .size) v
+
+  kind-same : (v : Bool) (k : ℕ) → k < edges v → wrongOf L t v k ≡ wrongAt L t (kindStart (L .size) v + k)
+  kind-same v k h =
+      ap (λ (e : Edge). wrong (isStick L e) (getD t (kindStart (L .size) v + k) 0))
+      (sym (edgeAt-kind (L .size) (given .sound .whole .sized) v k h))
+
+  split : edgeCount (L .size) ≡ kindStart (L .size) true + edges true
+  split = edges-split (L .size) (given .sound .whole .sized)
+
+  none-passed : Passed (wrongAt L t) 0
+  none-passed = passed-start
+
+  module _ {start k : ℕ} (horizontal : start ≡ kindStart (L .size) true) (low : k ≡ least (wrongOf L t false) (edges false)) where
+    pub entries-low : k < start → No WrongEntry k ≡ entriesAnswer L t
+    unfolding entriesAnswer
+    entries-low h =
+        let within : 0 + k < edgeCount (L .size) = omega (arith, split) in
+        rw zero-add at (part-no none-passed (wrongOf L t false) (kind-same false) low (omega arith) within WrongEntry)
+
+    module _ {k′ : ℕ} (high : k′ ≡ least (wrongOf L t true) (edges true)) where
+      pub places-few : start + k′ ≤ 2095104
+      places-few =
+          omega (arith, split, leastFrom-le (wrongOf L t true) 0 (edges true), edges-small (L .size) (given .sound .whole .sized))
+
+      module _ (over : start ≤ k) {count : ℕ} (whole : count ≡ edgeCount (L .size)) where
+        low-passed : Passed (wrongAt L t) (kindStart (L .size) true)
+        low-passed = rw zero-add at (part-passed none-passed (wrongOf L t false) (kind-same false) low (omega arith))
+
+        pub entries-high : start + k′ < count → No WrongEntry (start + k′) ≡ entriesAnswer L t
+        unfolding entriesAnswer
+        entries-high h =
+            rw horizontal
+            (part-no low-passed (wrongOf L t true) (kind-same true) high (omega (arith, split)) (omega arith) WrongEntry)
+
+        pub entries-right : count ≤ start + k′ → Yes ≡ entriesAnswer L t
+        unfolding entriesAnswer
+        entries-right h =
+            passed-yes (part-passed low-passed (wrongOf L t true) (kind-same true) high (omega (arith, split))) WrongEntry (omega (arith, split))

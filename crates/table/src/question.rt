@@ -15,7 +15,7 @@ ghost use Rattle.grid.specs.Edges.{edgeColumns, edgeRows, edgeCount};
 ghost use Rattle.grid.specs.Questions.{firstNo, Sized};
 ghost use Rattle.table.specs.Entries.{tableLengthAnswer, lengthQuestions, entriesAnswer, wrongOf, wrongIn, wrongFrom};
 ghost use Rattle.table.specs.Kept.{allKeptAnswer};
-ghost use Rattle.table.specs.Lent.{Lent};
+ghost use Rattle.table.specs.Lent.{Lent, LentRow, LentRun};
 
 fn ask_table_length(size: Size, entries: usize) -> Answer
     requires { ⌜ Sized size ⌝ }
@@ -55,8 +55,7 @@ fn eight_empty(table: &[u16], start: usize) -> bool
 // The first of `count` entries from `start` on that is wrong, counted from there, or `count`. Bit b of marks says whether the b-th of
 // them is on a stick.
 fn first_wrong(table: &[u16], start: usize, count: usize, marks: u8) -> usize
-    requires { ⌜ start + count ≤ length (now table) ⌝ }
-    requires { ⌜ count ≤ 8 ⌝ }
+    requires { ⌜ LentRun (now table) start count ⌝ }
     ensures { λ r. ⌜ r ≡ least (wrongFrom (now (table .entry)) start marks) count ⌝ }
 {
     let mut b = 0;
@@ -71,8 +70,7 @@ fn first_wrong(table: &[u16], start: usize, count: usize, marks: u8) -> usize
 
 // The same, with one test where the eight edges have no stick and their entries are all 0.
 fn first_wrong_fast(table: &[u16], start: usize, count: usize, marks: u8) -> usize
-    requires { ⌜ start + count ≤ length (now table) ⌝ }
-    requires { ⌜ count ≤ 8 ⌝ }
+    requires { ⌜ LentRun (now table) start count ⌝ }
     ensures { λ r. ⌜ r ≡ least (wrongFrom (now (table .entry)) start marks) count ⌝ }
 {
     if marks == 0 {
@@ -87,8 +85,7 @@ fn first_wrong_fast(table: &[u16], start: usize, count: usize, marks: u8) -> usi
 
 // The first column of a row whose entry is wrong, or the number of columns.
 fn wrong_in_row(size: Size, bitmap: &[u8], table: &[u16], vertical: bool, row: usize) -> usize
-    requires { ⌜ Lent (layerOf size (now bitmap)) (now table) ⌝ }
-    requires { ⌜ row < edgeRows size vertical ⌝ }
+    requires { ⌜ LentRow (layerOf size (now bitmap)) (now table) vertical row ⌝ }
     ensures { λ r. ⌜ r ≡ least (wrongIn (layerOf size (now (bitmap .entry))) (now (table .entry)) vertical row) (edgeColumns size vertical) ⌝ }
 {
     let columns = grid::edge_columns(size, vertical);

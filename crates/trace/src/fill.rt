@@ -3,12 +3,11 @@ use grid::Size;
 use table::Entry;
 use table::encoded_of;
 ghost use mathlib.Core.Path.{_≡_};
-ghost use Prim.Native.Nat.{_+_, _≤_, _<_, _*_};
-ghost use lib.ListN.{length};
+ghost use Prim.Native.Nat.{_<_, _*_};
 ghost use Rattle.arith.specs.Ranges.{fill};
 ghost use Rattle.grid.specs.Layer.{layerOf, bit};
 ghost use Rattle.grid.specs.Edges.{edgeColumns, edgeRows, edgeCount, kindStart, rowStart};
-ghost use Rattle.table.specs.Lent.{Lent};
+ghost use Rattle.table.specs.Lent.{Lent, LentRow, LentRun};
 ghost use Rattle.trace.specs.Trace.{traced, tracedEntry, tracedBit};
 
 // A vertex kept at 128 for a one, no stick for a zero.
@@ -25,8 +24,7 @@ fn entry_at(marks: u8, b: usize) -> u16
 
 // `count` entries from `start` on: bit b of marks says whether the b-th of them is on a stick.
 fn fill_run(table: &mut [u16], start: usize, count: usize, marks: u8)
-    requires { ⌜ start + count ≤ length (now table) ⌝ }
-    requires { ⌜ count ≤ 8 ⌝ }
+    requires { ⌜ LentRun (now table) start count ⌝ }
     ensures { λ _. ⌜ now (table .exit) ≡ fill (tracedBit start marks) start count (now (table .entry)) ⌝ }
 {
     let mut b = 0;
@@ -37,8 +35,7 @@ fn fill_run(table: &mut [u16], start: usize, count: usize, marks: u8)
 }
 
 fn fill_row(size: Size, bitmap: &[u8], table: &mut [u16], vertical: bool, row: usize)
-    requires { ⌜ Lent (layerOf size (now bitmap)) (now table) ⌝ }
-    requires { ⌜ row < edgeRows size vertical ⌝ }
+    requires { ⌜ LentRow (layerOf size (now bitmap)) (now table) vertical row ⌝ }
     ensures { λ _. ⌜ now (table .exit) ≡ fill (tracedEntry (layerOf size (now (bitmap .entry)))) (rowStart size vertical row) (edgeColumns size vertical) (now (table .entry)) ⌝ }
 {
     let columns = grid::edge_columns(size, vertical);

@@ -1,41 +1,38 @@
 -- `first_wrong` meets its contract. The invariant: no entry passed is wrong.
 use mathlib.Core.Path.{_≡_, sym, _∙_}
-use mathlib.Core.Bool.{false}
-use Prim.Native.Nat.{ℕ, _-_, _≤_, _<_}
-use native.Mathlib.Omega.{arith}
+use Prim.Native.Nat.{_-_}
 use borrow.Author.Needs.{needs}
-use borrow.Author.Count.{below-more}
-use Rattle.arith.proofs.Ranges.{least-is, least-none}
 use Rattle.grid.specs.Layer.{bit}
 use Rattle.table.specs.Entries.{wrongFrom}
+use Rattle.table.proofs.Passing.{Passed, passed-start, passed-more, passed-found, passed-end}
 use Rattle.table.proofs.question.first_wrong.Statement.{statement}
 use Rattle.table.proofs.question.first_wrong.Tie as tie
 
 abbrev Inv-loop : tie.InvT-loop
-Inv-loop table start count marks b₀ b = (b ≤ count) × ((k : ℕ) → k < b → wrongFrom table start marks k ≡ false)
+Inv-loop table start count marks b₀ b = Passed (wrongFrom table start marks) b
 
 abbrev μ-loop : tie.MeasureT-loop
 μ-loop table start count marks b₀ b = count - b
 
-loop-holds : tie.Need-loop-holds Inv-loop μ-loop
-loop-holds c = (omega arith, λ k h. absurd (omega arith))
-
 tested : (c : tie.After-is-wrong Inv-loop μ-loop)
-    → wrongFrom (c .before .before .before .before .before .args .table .now) (c .before .before .before .before .before .args .start) (c .before .before .before .before .before .args .marks) (c .before .before .before .loop .b) ≡ c .is-wrong .result
+    → let at-loop = c .before .before .before in
+    let a = at-loop .before .before .args in wrongFrom (a .table .now) (a .start) (a .marks) (at-loop .loop .b) ≡ c .is-wrong .result
 unfolding bit
 tested c = sym (c .is-wrong .ensures)
 
 returns : tie.Need-returns Inv-loop μ-loop
-returns c = sym (least-is _ _ _ (c .before .before .before .loop-test .taken) (tested (c .before) ∙ c .if1 .taken) (c .before .before .before .before .loop .inv .1))
+returns c =
+    let turn = c .before .before .before in
+    passed-found (turn .before .loop .inv) (turn .loop-test .taken) (tested (c .before) ∙ c .if1 .taken)
 
 loop-again : tie.Need-loop-again Inv-loop μ-loop
-loop-again c = (omega arith, below-more _ _ (c .before .before .before .before .loop .inv .1) (tested (c .before) ∙ c .if1 .left))
-
-returns-2 : tie.Need-returns-2 Inv-loop μ-loop
-returns-2 c = sym (least-none _ _ (λ k h. c .before .loop .inv .1 k (omega arith)))
+loop-again c =
+    let at-loop = c .before .before .before .before in
+    passed-more (at-loop .loop .inv) (tested (c .before) ∙ c .if1 .left)
 
 pub first-wrong-spec : {M : Type 1} → statement M
 first-wrong-spec =
     tie.close
-    (tie.spec Inv-loop μ-loop loop-holds (λ c. search needs) (λ c. search needs) (λ c. search needs) (λ c. search needs) (λ c. search needs)
-    (λ c κs. search needs) returns (λ c. search needs) (λ c. search needs) loop-again returns-2)
+    (tie.spec Inv-loop μ-loop (λ c. passed-start) (λ c. search needs) (λ c. search needs) (λ c. search needs) (λ c. search needs)
+    (λ c. search needs) (λ c κs. search needs) returns (λ c. search needs) (λ c. search needs) loop-again
+    (λ c. passed-end (c .before .loop .inv) (c .loop-test .left)))
