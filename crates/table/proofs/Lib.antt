@@ -1,5 +1,5 @@
 -- Laws on the definitions of specs/ that the proofs of this crate and of the crates above it cite.
-pub mod Passing
+pub mod Searching
 pub mod Pieces
 pub mod Runs
 pub mod Lengths

@@ -1,5 +1,5 @@
 -- Question 6: the first wrong entry, found in runs of eight, by rows and by kinds, is the first by number. Each loop has its record of what was
--- passed; a turn of it is a part of the search (proofs/Passing), whose test agrees with that of the whole on that part.
+-- passed; a turn of it is a part of the search (proofs/Searching), whose test agrees with that of the whole on that part.
 use mathlib.Core.Path.{_≡_, refl, ap, ap₂, sym, _∙_}
 use mathlib.Core.Bool.{Bool, true, false}
 use mathlib.Core.List.{List}
@@ -23,7 +23,7 @@ use Rattle.grid.proofs.Bits.{bit-past}
 use Rattle.grid.proofs.Numbers.{edgeIn-at, edgeAt-kind, edges-split, edges-small}
 use Rattle.table.specs.Entries.{entryOf, wrong, wrongAt, wrongOf, wrongIn, wrongFrom, entriesAnswer}
 use Rattle.table.specs.Lent.{Lent, LentRow}
-use Rattle.table.proofs.Passing.{Passed, passed-start, passed-end, passed-yes, part-passed, part-found, part-no}
+use Rattle.table.proofs.Searching.{NoneBelow, none-start, none-end, none-yes, part-passed, part-found, part-no}
 use Rattle.table.proofs.Pieces.{reached, Piece, pieces-few}
 
 -- Eight entries at once
@@ -62,7 +62,7 @@ zeros-right t start {x} none eight zero =
 
 pub record RowPassed (L : Layer) (t : List ℕ) (v : Bool) (r at : ℕ) : Type 0 where
   pub few : at ≤ 128
-  pub passed : Passed (wrongIn L t v r) (reached (L .size) v at)
+  pub passed : NoneBelow (wrongIn L t v r) (reached (L .size) v at)
 
 module _ {L : Layer} {t : List ℕ} {v : Bool} {r : ℕ} where
   pub row-begin : RowPassed L t v r 0
@@ -71,10 +71,10 @@ module _ {L : Layer} {t : List ℕ} {v : Bool} {r : ℕ} where
   module _ {at : ℕ} (so-far : RowPassed L t v r at) where
     pub row-end : {columns : ℕ} → columns ≡ edgeColumns (L .size) v → columns ≤ 8 * at
         → columns ≡ least (wrongIn L t v r) (edgeColumns (L .size) v)
-    row-end wide over = wide ∙ passed-end (so-far .passed) (omega arith)
+    row-end wide over = wide ∙ none-end (so-far .passed) (omega arith)
 
     module _ {start x n b : ℕ} (p : Piece L v r at start x n) (e : b ≡ least (wrongFrom t (start + 8 * at) x) n) where
-      before : Passed (wrongIn L t v r) (8 * at)
+      before : NoneBelow (wrongIn L t v r) (8 * at)
       before = rw (p .from) (so-far .passed)
 
       run-same : (j : ℕ) → j < n → wrongFrom t (start + 8 * at) x j ≡ wrongIn L t v r (8 * at + j)
@@ -94,7 +94,7 @@ module _ {L : Layer} {t : List ℕ} {v : Bool} {r : ℕ} where
 -- A kind, by rows: no entry of those before row r is wrong
 
 pub record KindPassed (L : Layer) (t : List ℕ) (v : Bool) (r : ℕ) : Type 0 where
-  pub passed : Passed (wrongOf L t v) (r * edgeColumns (L .size) v)
+  pub passed : NoneBelow (wrongOf L t v) (r * edgeColumns (L .size) v)
 
 module _ {L : Layer} {t : List ℕ} {v : Bool} where
   pub kind-begin : KindPassed L t v 0
@@ -103,7 +103,7 @@ module _ {L : Layer} {t : List ℕ} {v : Bool} where
   module _ {r : ℕ} (so-far : KindPassed L t v r) {columns : ℕ} (wide : columns ≡ edgeColumns (L .size) v) where
     pub kind-end : {rows : ℕ} → rows ≡ edgeRows (L .size) v → rows ≤ r
         → rows * columns ≡ least (wrongOf L t v) (edgeRows (L .size) v * edgeColumns (L .size) v)
-    kind-end high over = rw (high, wide) (passed-end (so-far .passed) (mul-le-mul-right (edgeColumns (L .size) v) (omega arith)))
+    kind-end high over = rw (high, wide) (none-end (so-far .passed) (mul-le-mul-right (edgeColumns (L .size) v) (omega arith)))
 
     module _ (given : LentRow L t v r) {c : ℕ} (e : c ≡ least (wrongIn L t v r) (edgeColumns (L .size) v)) where
       row-same : (j : ℕ) → j < edgeColumns (L .size) v → wrongIn L t v r j ≡ wrongOf L t v (r * edgeColumns (L .size) v + j)
@@ -136,8 +136,8 @@ module _ {L : Layer} {t : List ℕ} (given : Lent L t) where
   split : edgeCount (L .size) ≡ kindStart (L .size) true + edges true
   split = edges-split (L .size) (given .sound .whole .sized)
 
-  none-passed : Passed (wrongAt L t) 0
-  none-passed = passed-start
+  none-passed : NoneBelow (wrongAt L t) 0
+  none-passed = none-start
 
   module _ {start k : ℕ} (horizontal : start ≡ kindStart (L .size) true) (low : k ≡ least (wrongOf L t false) (edges false)) where
     pub entries-low : k < start → No WrongEntry k ≡ entriesAnswer L t
@@ -152,7 +152,7 @@ module _ {L : Layer} {t : List ℕ} (given : Lent L t) where
           omega (arith, split, leastFrom-le (wrongOf L t true) 0 (edges true), edges-small (L .size) (given .sound .whole .sized))
 
       module _ (over : start ≤ k) {count : ℕ} (whole : count ≡ edgeCount (L .size)) where
-        low-passed : Passed (wrongAt L t) (kindStart (L .size) true)
+        low-passed : NoneBelow (wrongAt L t) (kindStart (L .size) true)
         low-passed = rw zero-add at (part-passed none-passed (wrongOf L t false) (kind-same false) low (omega arith))
 
         pub entries-high : start + k′ < count → No WrongEntry (start + k′) ≡ entriesAnswer L t
@@ -164,4 +164,4 @@ module _ {L : Layer} {t : List ℕ} (given : Lent L t) where
         pub entries-right : count ≤ start + k′ → Yes ≡ entriesAnswer L t
         unfolding entriesAnswer
         entries-right h =
-            passed-yes (part-passed low-passed (wrongOf L t true) (kind-same true) high (omega (arith, split))) WrongEntry (omega (arith, split))
+            none-yes (part-passed low-passed (wrongOf L t true) (kind-same true) high (omega (arith, split))) WrongEntry (omega (arith, split))
