@@ -27,7 +27,8 @@ use Rattle.held.specs.Questions.{Accepted}
 use Rattle.edit.specs.Edits.{Named, askAt, edgeNamed, carriesKept, goodOffset}
 use Rattle.edit.specs.declared.redraw.Chord.{Chord}
 
--- the vertices of the n sticks that follow e on its contour would slide at most T to the chord from p to q, from their stored offsets
+-- the vertex of u would slide at most T to the chord from p to q, from its stored offset; and the vertices of the n sticks that follow e on its
+-- contour
 abbrev pub slidesAt : Layer → List ℕ → ℕ → Position → Position → Edge → Bool
 slidesAt L t tolerance p q u = slidesWithin tolerance p q u (offsetAt L t u)
 
