@@ -1,0 +1,2 @@
+-- Theorems on turns.
+pub mod Rows
