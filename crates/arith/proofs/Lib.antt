@@ -3,6 +3,9 @@ pub mod Booleans
 pub mod Ranges
 pub mod Counting
 pub mod Finite
+pub mod Stores
+pub mod Levels
+pub mod Placing
 pub mod Integers
 pub mod Bounds
 pub mod Nearest

@@ -3,5 +3,6 @@ pub mod Booleans
 pub mod Lists
 pub mod Ranges
 pub mod Finite
+pub mod Levels
 pub mod Integers
 pub mod Nearest

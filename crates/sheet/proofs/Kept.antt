@@ -2,11 +2,12 @@
 -- end is as before. "A refusal leaves all buffers as found"; "Outputs past the answer's end stay untouched."
 use mathlib.Core.Path.{_≡_, refl, ap, _∙_}
 use mathlib.Core.List.{List, [], _∷_, _++_}
-use Prim.Native.Nat.{ℕ, suc, _+_, _≤_}
+use Prim.Native.Nat.{ℕ, _+_, _≤_}
 use native.Mathlib.Omega.{arith}
 use borrow.Author.Tests.{leb-true}
-use lib.ListN.{length, getD, set, take, drop}
-use lib.Seq.{sets, length-sets, sets-eq, getD-set-other, take-at}
+use lib.ListN.{length, getD, take, drop}
+use lib.Seq.{sets, length-sets, sets-eq, take-at}
+use Rattle.arith.proofs.Stores.{sets-past}
 use Rattle.grid.specs.Layer.{Layer}
 use Rattle.grid.specs.Questions.{firstNo}
 use Rattle.grid.specs.declared.question.Refusal.the-variants.{ShortOutput}
@@ -17,12 +18,7 @@ use Rattle.held.specs.Questions.{heldQuestions}
 use Rattle.sheet.specs.Written.{sheetOf, roomAnswer, Outcome, writeOf}
 use Rattle.sheet.proofs.Answered.{byAnswer, written-by}
 
--- storing changes nothing past what is stored
-pub sets-past : (l s : List ℕ) (i k d : ℕ) → i + length l ≤ k → getD (sets s i l) k d ≡ getD s k d
-sets-past [] s i k d h = refl
-sets-past (x ∷ l) s i k d h = sets-past l (set s i x) (suc i) k d (omega arith) ∙ getD-set-other s i k x d (λ e. omega arith)
-
--- and what is stored from 0 on is what the list begins with
+-- what is stored from 0 on is what the list begins with
 pub sets-joined : (l s : List ℕ) → length l ≤ length s → sets s 0 l ≡ l ++ drop (length l) s
 sets-joined l s h =
     let z : 0 + length l ≡ length l = omega arith in
