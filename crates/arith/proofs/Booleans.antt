@@ -1,5 +1,5 @@
 -- Booleans by cases and taken apart: the laws of `Rattle.arith.specs.Booleans`, and what a test that came out true or false gives.
-use mathlib.Core.Path.{_≡_, refl}
+use mathlib.Core.Path.{_≡_, refl, sym, subst}
 use mathlib.Core.Bool.{Bool, true, false, false≢true, not, _&&_, _||_, Bool·beq}
 use Prim.Native.Nat.{_≤_}
 use native.Mathlib.Omega.{arith}
@@ -28,6 +28,15 @@ beq→eq true true t = refl
 beq→eq true false t = absurd t
 beq→eq false true t = absurd t
 beq→eq false false t = refl
+
+pub beq-yes : (a b : Bool) → Bool·beq a b ≡ true → a ≡ b
+beq-yes a b e = beq→eq a b (subst T (sym e) tt)
+
+pub beq-no : (a b : Bool) → Bool·beq a b ≡ false → not a ≡ b
+beq-no true true e = absurd (false≢true (sym e))
+beq-no true false e = refl
+beq-no false true e = refl
+beq-no false false e = absurd (false≢true (sym e))
 
 pub implied : (a b : Bool) → T (not a || b) → a ≡ true → T b
 implied true b t e = t

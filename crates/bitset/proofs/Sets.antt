@@ -85,15 +85,17 @@ module _ (t : List ℕ) (n : ℕ) (sized : length t ≡ words) (less : n < setBi
 pub empty-set : Empty (replicate words 0)
 empty-set = record { sized = length-replicate {A = ℕ} words 0; none = λ k h. getD-replicate {A = ℕ} words k 0 0 h }
 
--- no number is in an empty set
-pub has-none : (t : List ℕ) → Empty t → (k : ℕ) → k < setBits → has t k ≡ false
-unfolding has
-has-none t empty k h = rw (empty .none (k / 64) (omega arith)) (bit-zero (k % 64))
-
--- and none past the end in any
+-- no number past the end is in a set, and none at all in an empty one
 pub has-past : (t : List ℕ) → length t ≡ words → (k : ℕ) → setBits ≤ k → has t k ≡ false
 unfolding has
 has-past t sized k h = rw (List·getD-eq-default t 0 {n = k / 64} (omega arith)) (bit-zero (k % 64))
+
+pub has-none : (t : List ℕ) → Empty t → (k : ℕ) → has t k ≡ false
+unfolding has
+has-none t empty k = elim (decLt k setBits) [
+  | yes l ↦ rw (empty .none (k / 64) (omega arith)) (bit-zero (k % 64))
+  | no g ↦ has-past t (empty .sized) k (omega arith)
+]
 
 -- the bits of a word are those of 64 numbers
 has-bit : (t : List ℕ) (i b : ℕ) → b < 64 → has t (64 * i + b) ≡ bit (getD t i 0) b

@@ -9,3 +9,4 @@ pub use set::lowest_bit;
 pub use set::member_count;
 pub use set::next_first;
 pub use set::remove;
+pub use set::widen;

@@ -42,6 +42,14 @@ pub fn remove(set: &mut EdgeSet, n: usize)
     set[word] = set[word] ^ (1 << (n % 64));
 }
 
+// A byte as a word.
+pub fn widen(x: u8) -> u64
+    ensures { λ r. ⌜ r ≡ x ⌝ }
+    ensures { λ r. ⌜ r < 256 ⌝ }
+{
+    x as u64
+}
+
 // The lowest bit of a word that is set.
 pub fn lowest_bit(x: u64) -> usize
     requires { ⌜ (x ≡ 0 → ⊥) ⌝ }

@@ -46,6 +46,12 @@ module _ (L : Layer) where
           λ k a b. clear-at k a (omega arith) (leastFrom-below (bit x) 0 64 (k - c) (omega arith) (omega (arith, e))),
         )
 
+    -- those from k columns further on
+    pub left-shift : (k : ℕ) → Left at r (c + k) (x / 2 ^ k)
+    left-shift k b =
+        let q : c + (k + b) ≡ c + k + b = omega arith in
+        bit-shift x k b ∙ (rw q at (left (k + b)))
+
     pub left-next : (z : ℕ) → Left at r (c + (z + 1)) (x / 2 ^ z / 2)
     left-next z b =
         let e : z + (1 + b) ≡ z + 1 + b = omega arith in

@@ -26,7 +26,7 @@ use Rattle.contour.specs.Marking.{markEdge, Markable, horizontal, Scanne
 use Rattle.contour.proofs.Members.{on-one}
 use Rattle.contour.proofs.Sticks.{laws}
 use Rattle.contour.proofs.Horizontal.{horizontal-low, first-horizontal}
-use Rattle.bitset.proofs.Sets.{has-with, has-with-other, has-without, has-without-other, length-with, length-without, has-none, has-past}
+use Rattle.bitset.proofs.Sets.{has-with, has-with-other, has-without, has-without-other, length-with, length-without, has-none}
 use Rattle.contour.proofs.Marking.{Marks, mark-start, mark-clear, mark-set, mark-passed, mark-contour, mark-skip, bits-ok}
 
 -- horizontal edges are numbered row by row, and have a bit each
@@ -205,15 +205,9 @@ module _ (L : Layer) (sound : Sound L) where
   scan-start t empty = record {
     sound = sound;
     sized = empty .sized;
-    marked = mark-start (walkOf L) (laws L sound) horizontal (has t) (λ k b c. clear k);
-    above = λ k l. clear k;
+    marked = mark-start (walkOf L) (laws L sound) horizontal (has t) (λ k b c. has-none t empty k);
+    above = λ k l. has-none t empty k;
   }
-    where
-      clear : (k : ℕ) → has t k ≡ false
-      clear k = elim (decLt k setBits) [
-        | yes l ↦ has-none t empty k l
-        | no g ↦ has-past t (empty .sized) k (omega arith)
-      ]
 
   -- and ends with that of the first sticks.
 

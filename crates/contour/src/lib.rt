@@ -10,3 +10,4 @@ pub use cursor::first_contour;
 pub use cursor::next_contour;
 pub use edge::same_edge;
 pub use scan::first_sticks;
+pub use scan::mark_contour;

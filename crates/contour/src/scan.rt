@@ -6,6 +6,7 @@ use bitset::contains;
 use bitset::insert;
 use bitset::lowest_bit;
 use bitset::remove;
+use bitset::widen;
 use grid::Edge;
 use grid::Size;
 use grid::stride_of;
@@ -21,15 +22,8 @@ ghost use Rattle.bitset.specs.Sets.{Empty};
 ghost use Rattle.contour.specs.Sets.{FirstSet};
 ghost use Rattle.contour.specs.Marking.{markEdge, Markable, Scanned, ScannedTo, ScannedAt};
 
-fn widen(x: u8) -> u64
-    ensures { λ r. ⌜ r ≡ x ⌝ }
-    ensures { λ r. ⌜ r < 256 ⌝ }
-{
-    x as u64
-}
-
 // Sets the bit of each horizontal stick on the contour that starts at `first`.
-fn mark_contour(size: Size, bitmap: &[u8], set: &mut EdgeSet, first: Edge)
+pub fn mark_contour(size: Size, bitmap: &[u8], set: &mut EdgeSet, first: Edge)
     requires { ⌜ Markable (layerOf size (now bitmap)) (now set) first ⌝ }
     ensures { λ r. ⌜ now (set .exit) ≡ foldl (markEdge size) (now (set .entry)) (contourOf (layerOf size (now (bitmap .entry))) first) ⌝ }
 {

@@ -6,7 +6,7 @@ use Prim.Native.Nat.{ℕ, _+_, _-_, _≤_, _<_}
 use native.Mathlib.Decide.{ℕ-discrete}
 use native.Mathlib.Omega.{arith}
 use lib.Dec.{T}
-use Rattle.arith.proofs.Booleans.{and-split, beq→eq}
+use Rattle.arith.proofs.Booleans.{and-split, beq-yes, beq-no}
 use Rattle.grid.specs.Layer.{Layer, sample}
 use Rattle.grid.specs.Edges.{isStick, inGrid, firstEnd, secondEnd}
 use Rattle.grid.specs.Questions.{Sound, onBorder}
@@ -74,15 +74,6 @@ beq-self false = refl
 beq-other : (a : Bool) → Bool·beq a (not a) ≡ false
 beq-other true = refl
 beq-other false = refl
-
-beq-no : (a b : Bool) → Bool·beq a b ≡ false → not a ≡ b
-beq-no true true e = absurd (true≢false e)
-beq-no true false e = refl
-beq-no false true e = refl
-beq-no false false e = absurd (true≢false e)
-
-beq-yes : (a b : Bool) → Bool·beq a b ≡ true → a ≡ b
-beq-yes a b e = beq→eq a b (subst T (sym e) tt)
 
 add-sub : (n : ℕ) → n + 1 - 1 ≡ n
 add-sub n = omega arith
