@@ -1,7 +1,9 @@
 // The baseline's calls. Nothing here is taken from the proved code; every rule is written down as plainly as it can be.
 #include "baseline.h"
+#include <algorithm>
 #include <cstdlib>
 #include <cstring>
+#include <numeric>
 #include <vector>
 
 namespace {
@@ -76,6 +78,33 @@ struct Layer {
         return all;
     }
 };
+
+// How many other contours are around each one. Along a row a contour is entered at one of its sticks and left at the next, and in the sweep over
+// all rows the first stick of a contour is the one that is met first.
+std::vector<uint32_t> depths(const Layer &layer, const std::vector<Contour> &contours) {
+    const uint32_t none = UINT32_MAX;
+    std::vector<uint32_t> on(layer.h * (layer.w - 1), none), depth(contours.size(), none);
+    for (size_t k = 0; k < contours.size(); k++)
+        for (const Stick &stick : contours[k])
+            if (!stick.vertical) on[stick.number] = k;
+    std::vector<bool> around(contours.size());
+    uint32_t count = 0;
+    for (uint32_t k : on)
+        if (k != none) {
+            if (depth[k] == none) depth[k] = count;
+            count += around[k] ? -1 : 1;
+            around[k] = !around[k];
+        }
+    return depth;
+}
+
+// The contours' places, by depth and then by first stick.
+std::vector<uint32_t> by_depth(const Layer &layer, const std::vector<Contour> &contours) {
+    std::vector<uint32_t> depth = depths(layer, contours), order(contours.size());
+    std::iota(order.begin(), order.end(), 0);
+    std::stable_sort(order.begin(), order.end(), [&](uint32_t a, uint32_t b) { return depth[a] < depth[b]; });
+    return order;
+}
 
 struct Refusal {
     uint32_t number;
@@ -437,9 +466,9 @@ uint32_t plan(uint16_t w, uint16_t h, const uint8_t *bitmap, size_t bytes, const
     size_t kept = 0;
     for (size_t n = 0; n < entries; n++) kept += is_kept(table[n]);
     if (item_count < kept + contours.size() || float_count < 2 * kept) return answer(figures, {14, 0});
-    for (const Contour &contour : contours) {
+    for (uint32_t k : by_depth(layer, contours)) {
         bool moved = false;
-        for (const Stick &stick : contour)
+        for (const Stick &stick : contours[k])
             if (is_kept(table[stick.number])) {
                 Point p = vertex(stick, table[stick.number]);
                 *items++ = moved ? 'l' : 'M', *points++ = p.x / 256.0, *points++ = p.y / 256.0;

@@ -86,8 +86,9 @@ uint32_t pz_read_sheet(uint16_t w, uint16_t h, const uint8_t *bitmap, size_t bit
                        const uint8_t *sheet, size_t sheet_len, uint64_t *figures, size_t figures_len);
 
 /* Writes the planner's list: for each contour an 'M' and the first kept vertex, an 'l' and a vertex for each further one, a 'Z' without any;
- * x and y in samples. kept + contours items and 2 * kept floats, at most sticks + contours and 2 * sticks. The order of the contours is left
- * open. figures: place, items, floats */
+ * x and y in samples. kept + contours items and 2 * kept floats, at most sticks + contours and 2 * sticks. Contours come by depth, which is the
+ * number of other contours around them, and among equal depth by the entry of their first stick; so each comes after those around it. Outlines
+ * have even depth and bores odd depth. The order depends on the bitmap alone. figures: place, items, floats */
 uint32_t pz_plan(uint16_t w, uint16_t h, const uint8_t *bitmap, size_t bitmap_len, const uint16_t *table, size_t table_len,
                  uint8_t *items, size_t items_len, double *points, size_t points_len, uint64_t *figures, size_t figures_len);
 

@@ -1,6 +1,6 @@
 //! A layer and the calls on it.
 
-use crate::{raw, Edge, List, Refusal, View};
+use crate::{raw, Edge, Kind, List, Refusal, View};
 
 /// A sampled layer: columns and rows, 2 to 1,024 each, and the bitmap, (width + 7) / 8 bytes a row, row 0 the lowest. Sample (c, r) is
 /// bit c % 8, least significant first, of byte c / 8 of row r; 1 is inside. Any values may be put here: the calls ask whether they are
@@ -239,7 +239,8 @@ impl<'a> Layer<'a> {
         accepted(raw::read_sheet(*self, table, sheet)).map(drop)
     }
 
-    /// Writes the planner's list: one byte an item, `M`, `l` or `Z`, and x, y of each point in samples. What is past it stays.
+    /// Writes the planner's list: one byte an item, `M`, `l` or `Z`, and x, y of each point in samples. Contours come by depth, which is the
+    /// number of other contours around them, and among equal depth by first stick: see [`Layer::kinds`]. What is past the list stays.
     /// Questions 1 to 7 and 14.
     ///
     /// ```
@@ -277,6 +278,28 @@ impl<'a> Layer<'a> {
         items.truncate(planned.items as usize);
         points.truncate(planned.floats as usize);
         Ok(List { items, points })
+    }
+
+    /// What the contours are, in the order of the list, which depends on the bitmap alone: `kinds()[i]` belongs to contour i of every list of
+    /// this layer. Each contour comes after those around it; outlines have an even number of others around them, bores an odd one.
+    /// Questions 1 to 4.
+    ///
+    /// ```
+    /// # use puzhenim::{Kind, Layer};
+    /// // A ring around a sample.
+    /// let bitmap = [0, 0b0111110, 0b0100010, 0b0101010, 0b0100010, 0b0111110, 0];
+    /// let layer = Layer { width: 7, height: 7, bitmap: &bitmap };
+    /// assert_eq!(layer.kinds()?, [Kind::Outline, Kind::Bore, Kind::Outline]);
+    /// # Ok::<(), puzhenim::Refusal>(())
+    /// ```
+    pub fn kinds(&self) -> Result<Vec<Kind>, Refusal> {
+        let view = self.view()?;
+        let mut table = self.new_table();
+        self.trace(&mut table)?;
+        // Every vertex is kept in the middle of its stick, so a contour begins in the middle of its first stick, which is horizontal; rounding
+        // down gives its west end. A contour is a bore exactly if that is inside: the theorem of the library.
+        let first_points = self.list(&table)?.contours().into_iter().filter_map(|contour| contour.first().copied());
+        Ok(first_points.map(|(x, y)| if view.sample(x as u16, y as u16) { Kind::Bore } else { Kind::Outline }).collect())
     }
 
     /// A view for reading many samples. Questions 1 to 4, once.

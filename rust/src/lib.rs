@@ -29,6 +29,6 @@ mod view;
 
 pub use edge::{Edge, Vertex};
 pub use layer::{Counts, Layer, Planned, Simplified, Smoothed};
-pub use list::{Item, List};
+pub use list::{Item, Kind, List};
 pub use refusal::Refusal;
 pub use view::View;

@@ -1,5 +1,14 @@
 //! The planner's list.
 
+/// What a contour is; [`Layer::kinds`](crate::Layer::kinds) tells.
+#[derive(Clone, Copy, Debug, PartialEq, Eq, Hash)]
+pub enum Kind {
+    /// It winds around the inside ends of its sticks, counter-clockwise.
+    Outline,
+    /// It winds around the outside ends of its sticks, clockwise.
+    Bore,
+}
+
 /// The planner's list in its two outputs: one byte an item, `M`, `l` or `Z`, and x, y of each point in samples.
 #[derive(Clone, Debug, Default, PartialEq)]
 pub struct List {
@@ -43,7 +52,7 @@ impl List {
         })
     }
 
-    /// The contours, each as its points.
+    /// The contours, each as its points, in the order of the list.
     ///
     /// ```
     /// # use puzhenim::List;

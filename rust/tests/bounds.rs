@@ -1,6 +1,7 @@
-//! Sides, numbers and lists that no good layer has: nothing panics, wraps or asks for much memory. And views against single samples.
+//! Sides, numbers and lists that no good layer has: nothing panics, wraps or asks for much memory. Views against single samples, and the
+//! deepest layer.
 
-use puzhenim::{Item, Layer, List, Refusal, View};
+use puzhenim::{Item, Kind, Layer, List, Refusal, View};
 
 const ABSURD: [(u16, u16); 8] = [(0, 0), (0, 65535), (65535, 0), (1, 1), (1, 1024), (1025, 2), (2, 1025), (65535, 65535)];
 
@@ -20,6 +21,7 @@ fn absurd_sides_have_no_table() {
         assert_eq!(layer.list(&table), Err(Refusal::BadSides));
         assert_eq!(layer.sample(65535, 65535), Err(Refusal::BadSides));
         assert_eq!(layer.view(), Err(Refusal::BadSides));
+        assert_eq!(layer.kinds(), Err(Refusal::BadSides));
     }
     let lengths = [(2, 2), (1024, 2), (1024, 1024)].map(|(width, height)| Layer { width, height, bitmap: &[] }.new_table().len());
     assert_eq!(lengths, [4, 3070, 2_095_104]);
@@ -94,11 +96,32 @@ fn a_view_of_the_largest_layer_counts_its_samples() {
 }
 
 #[test]
-fn a_view_is_refused_as_a_sample_is() {
+fn a_view_and_kinds_are_refused_as_a_sample_is() {
     for (width, bitmap) in [(1, &[0, 2, 0][..]), (3, &[0, 2]), (3, &[0, 2, 8]), (3, &[0, 6, 0])] {
         let layer = Layer { width, height: 3, bitmap };
         let refusal = layer.sample(1, 1).unwrap_err();
         assert_eq!(layer.view(), Err(refusal));
+        assert_eq!(layer.kinds(), Err(refusal));
+    }
+}
+
+#[test]
+fn nested_squares_as_deep_as_a_layer_has_room_for() {
+    let mut bytes = vec![0; 1024 * 128];
+    for row in 0..1024_usize {
+        for column in 0..1024_usize {
+            let way = column.min(1023 - column).min(row.min(1023 - row));
+            bytes[row * 128 + column / 8] |= ((way % 2) as u8) << (column % 8);
+        }
+    }
+    let layer = Layer { width: 1024, height: 1024, bitmap: &bytes };
+    let mut table = layer.new_table();
+    layer.trace(&mut table).unwrap();
+    let contours = layer.list(&table).unwrap().contours();
+    assert_eq!(contours.len(), 511);
+    for (i, (contour, kind)) in contours.iter().zip(layer.kinds().unwrap()).enumerate() {
+        assert_eq!((contour[0], contour.len()), ((i as f64 + 0.5, i as f64 + 1.0), 4 * (1022 - 2 * i)));
+        assert_eq!(kind, if i % 2 == 0 { Kind::Outline } else { Kind::Bore });
     }
 }
 

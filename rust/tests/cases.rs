@@ -1,9 +1,12 @@
 //! The calls on the cases of the rules.
 
-use puzhenim::{Counts, Edge, Item, Layer, Planned, Refusal, Simplified, Smoothed, Vertex};
+use puzhenim::{Counts, Edge, Item, Kind, Layer, Planned, Refusal, Simplified, Smoothed, Vertex};
 
 const SINGLE: Layer<'static> = Layer { width: 3, height: 3, bitmap: &[0, 0b010, 0] };
 const BAR: Layer<'static> = Layer { width: 5, height: 3, bitmap: &[0, 0b01110, 0] };
+/// A ring around a sample, and a sample above the ring.
+const NESTED: Layer<'static> =
+    Layer { width: 7, height: 9, bitmap: &[0, 0b0111110, 0b0100010, 0b0101010, 0b0100010, 0b0111110, 0, 0b0000010, 0] };
 const EMPTY: Layer<'static> = Layer { width: 4, height: 2, bitmap: &[0, 0] };
 
 fn traced(layer: Layer) -> Vec<u16> {
@@ -199,6 +202,56 @@ fn the_list_goes_round_with_inside_on_the_left() {
         Item::Close,
     ];
     assert_eq!(items, expected);
+}
+
+#[test]
+fn contours_come_by_depth_and_first_stick() {
+    let table = traced(NESTED);
+    let firsts = |table: &[u16]| -> Vec<(f64, f64)> { NESTED.list(table).unwrap().contours().iter().map(|contour| contour[0]).collect() };
+    assert_eq!(firsts(&table), [(0.5, 1.0), (0.5, 7.0), (1.5, 2.0), (2.5, 3.0)]);
+    // With the first vertex of the bore removed, its move leads to the next one.
+    let mut edited = table;
+    let bore = Edge { vertical: false, column: 1, row: 2 };
+    assert_eq!(NESTED.roll(&mut edited, &ended(&[remove(bore)]), 255), Ok(1));
+    assert_eq!(firsts(&edited), [(0.5, 1.0), (0.5, 7.0), (1.5, 3.0), (2.5, 3.0)]);
+}
+
+#[test]
+fn kinds_are_in_the_order_of_the_list() {
+    use Kind::{Bore, Outline};
+    assert_eq!(NESTED.kinds(), Ok(vec![Outline, Outline, Bore, Outline]));
+    assert_eq!(SINGLE.kinds(), Ok(vec![Outline]));
+    assert_eq!(EMPTY.kinds(), Ok(vec![]));
+    // Samples on a diagonal are outlines of their own, in a bore too; outside is joined over a corner, so that this ring is open.
+    let touching = Layer { width: 6, height: 6, bitmap: &[0, 0b011110, 0b010010, 0b010010, 0b001110, 0] };
+    assert_eq!(touching.kinds(), Ok(vec![Outline]));
+    let bore = Layer { width: 8, height: 8, bitmap: &[0, 0x7E, 0x42, 0x4A, 0x52, 0x42, 0x7E, 0] };
+    assert_eq!(bore.kinds(), Ok(vec![Outline, Bore, Outline, Outline]));
+}
+
+/// Twice the signed area of a contour, in samples.
+fn area(points: &[(f64, f64)]) -> f64 {
+    let after = points.iter().cycle().skip(1);
+    points.iter().zip(after).map(|(p, q)| p.0 * q.1 - q.0 * p.1).sum()
+}
+
+#[test]
+fn outlines_go_counter_clockwise_and_bores_clockwise() {
+    let bitmap: Vec<u8> = (0..32).map(|row: u8| if row % 31 == 0 { 0 } else { row.wrapping_mul(73) & 0x7E }).collect();
+    for layer in [NESTED, SINGLE, BAR, Layer { width: 8, height: 32, bitmap: &bitmap }] {
+        let mut table = traced(layer);
+        layer.smooth(&mut table, 3).unwrap();
+        layer.simplify(&mut table, 64).unwrap();
+        let kinds: Vec<Kind> = layer.list(&table).unwrap().contours().iter().map(|points| kind_by_area(points)).collect();
+        assert_eq!(layer.kinds(), Ok(kinds));
+    }
+}
+
+fn kind_by_area(points: &[(f64, f64)]) -> Kind {
+    match area(points) > 0.0 {
+        true => Kind::Outline,
+        false => Kind::Bore,
+    }
 }
 
 #[test]

@@ -222,15 +222,39 @@ fn a_roll_that_is_refused_writes_nothing() {
 fn plans_as_text_and_as_bytes() {
     let folder = Folder::new("plan");
     folder.put("sheet", SHEET);
-    folder.done(&["plan", &example("sample.layer"), "sheet", "-o", "list"]);
+    let said = folder.done(&["plan", &example("sample.layer"), "sheet", "-o", "list"]);
+    assert_eq!(said, "outlines: 1, bores: 0, each after those around it\n");
     let list = "M 0.99609375 1\nl 1 0.99609375\nl 1.00390625 1\nl 1 1.00390625\nZ\n";
     assert_eq!(text(&folder.get("list")), list);
-    folder.done(&["plan", &example("sample.layer"), "sheet", "-o", "items", "--binary", "points"]);
+    assert_eq!(folder.done(&["plan", &example("sample.layer"), "sheet", "-o", "-"]), list);
+    assert_eq!(folder.done(&["plan", &example("sample.layer"), "sheet", "-o", "items", "--binary", "points"]), said);
     assert_eq!(folder.get("items"), b"MlllZ");
+    assert_eq!(folder.done(&["plan", &example("sample.layer"), "sheet", "-o", "-", "--binary", "points"]), "MlllZ");
+    assert_eq!(folder.run(&["plan", &example("sample.layer"), "sheet", "-o", "items", "--binary", "-"]).stdout, folder.get("points"));
     let points = folder.get("points");
     assert_eq!((points.len(), &points[..8]), (64, &0.99609375_f64.to_le_bytes()[..]));
     folder.fails(2, &["plan", &example("sample.layer"), "sheet", "-o", "same", "--binary", "same"]);
     folder.fails(1, &["plan", &example("sample.layer"), "sheet", "-o", "list", "--binary", "none/points"]);
+}
+
+/// A ring around a sample, and a sample above the ring.
+const NESTED: &[u8] = b"P1 7 9 0000000 0100000 0000000 0111110 0100010 0101010 0100010 0111110 0000000";
+
+#[test]
+fn plans_and_draws_an_outer_wall_before_what_lies_within() {
+    let folder = Folder::new("nested");
+    folder.put("nested.pbm", NESTED);
+    folder.done(&["slice", "nested.pbm", "-o", "sheet", "--passes", "0", "--tolerance", "0"]);
+    let said = folder.done(&["plan", "nested.pbm", "sheet", "-o", "list"]);
+    assert_eq!(said, "outlines: 3, bores: 1, each after those around it\n");
+    let list = text(&folder.get("list"));
+    let moves: Vec<&str> = list.lines().filter(|line| line.starts_with('M')).collect();
+    assert_eq!(moves, ["M 0.5 1", "M 0.5 7", "M 1.5 2", "M 2.5 3"]);
+    folder.done(&["draw", "nested.pbm", "sheet", "-o", "nested.svg"]);
+    let picture = text(&folder.get("nested.svg"));
+    assert!(picture.contains("3 outlines, 1 bore"));
+    let classes: Vec<&str> = picture.lines().filter_map(|line| line.strip_prefix("<path class=\"")?.split('"').next()).collect();
+    assert_eq!(classes[..3], ["outline", "bore", "outline"]);
 }
 
 #[test]

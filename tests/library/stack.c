@@ -1,4 +1,4 @@
-/* Every exported call on four layers of 1024 by 1024 samples, each in a thread of its own with a stack of exactly 512 kB and a page below it
+/* Every exported call on five layers of 1024 by 1024 samples, each in a thread of its own with a stack of exactly 512 kB and a page below it
  * that must not be touched. The answers are those that the rules give by arithmetic alone, and no call needs more stack than the header
  * says. Silent if all is right; with an argument it prints how much stack each call needed. */
 #define _GNU_SOURCE
@@ -89,10 +89,17 @@ static void answered(const Call *call, uint64_t one, uint64_t two, uint64_t thre
 
 static size_t inside(size_t c, size_t r) { return bitmap[r * (SIDE / 8) + c / 8] >> c % 8 & 1; }
 
+/* How far a sample is from the border. */
+static size_t way(size_t c, size_t r) {
+    size_t across = c < SIDE - 1 - c ? c : SIDE - 1 - c, up = r < SIDE - 1 - r ? r : SIDE - 1 - r;
+    return across < up ? across : up;
+}
+
 /* The rule of a layer, for the samples off the border. */
 static int is_inside(size_t c, size_t r) {
     if (!strcmp(layer, "checkerboard")) return (c + r) % 2 == 0;
     if (!strcmp(layer, "serpentine")) return r % 2 == 1 || (r / 2 % 2 == 0 ? c == 1 : c == SIDE - 2);
+    if (!strcmp(layer, "squares")) return way(c, r) % 2;
     if (!strcmp(layer, "passages")) return r % 5 > 1 || c < 4 || c > SIDE - 5 || (c + 16 * (r / 5)) % 256 < 3;
     uint32_t noise = (uint32_t)(r * SIDE + c) * 2654435761u;
     noise = (noise ^ noise >> 15) * 2246822519u;
@@ -180,6 +187,7 @@ int main(int argc, char **argv) {
     all_calls("checkerboard", 522242);
     all_calls("serpentine", 1);
     all_calls("passages", 1009);
+    all_calls("squares", SIDE / 2 - 1);
     all_calls("noise", 69357 + 3408 - 1);
     return 0;
 }

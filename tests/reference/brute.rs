@@ -83,7 +83,7 @@ pub fn crosses_once(layer: &Layer, a: Point, b: Point, stick: usize) -> bool {
 
 /// Where the vertex of a stick lies: at its offset, in 1/256 of the way from one
 /// sample to the other.
-fn vertex(layer: &Layer, table: &[u16], stick: usize) -> Point {
+pub fn vertex(layer: &Layer, table: &[u16], stick: usize) -> Point {
     let [a, b] = samples(layer, stick);
     let offset = table[stick] as i128 & 255;
     let x = a.x + (b.x - a.x) / 256 * offset;

@@ -121,6 +121,26 @@ impl Builder {
         }
     }
 
+    /// Removes up to so many vertices of each contour, the first ones of its walk, as
+    /// far as it is still held after that.
+    pub fn remove_firsts(&mut self, most: usize) {
+        let layer = self.current();
+        let mut table = self.machine.table.clone();
+        for contour in contours(&layer) {
+            for &stick in &contour[..self.rng.between(1, most)] {
+                if !is_kept(table[stick]) {
+                    continue;
+                }
+                table[stick] += 256;
+                if !contour_is_held(&layer, &contour, &table) {
+                    table[stick] -= 256;
+                    break;
+                }
+                self.poke(stick, table[stick]);
+            }
+        }
+    }
+
     /// The sheet of the layer as it is, which is held.
     pub fn sheet(&self) -> Vec<u8> {
         let machine = &self.machine;

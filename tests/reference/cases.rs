@@ -1,11 +1,13 @@
 // The cases of the paper's section 'Cases', starred or not, each with the
 // figures it gives, and the layer program's example.
 
-use crate::contour::contours;
+use crate::contour::{contours, Contour};
+use crate::depth::depths;
 use crate::layer::Layer;
 use crate::machine::{Answer, Machine};
-use crate::picture::shown;
+use crate::picture::{frames, shown};
 use crate::places;
+use crate::planner::planner;
 use crate::program::program;
 use crate::script::Command;
 
@@ -259,6 +261,47 @@ fn list() -> Vec<Check> {
     ]
 }
 
+/// "Contours now come by depth, which is the number of other contours around them,
+/// and among equal depth by first stick number": a ring that holds a sample, and a
+/// sample above the ring. The ring's outline starts at stick 6, its bore at 13, the
+/// sample within at 20 and the one above at 42. And of nested squares as many as a
+/// layer has room for.
+fn order() -> Vec<Check> {
+    let layer = shown("....... .#..... ....... .#####. .#...#. .#.#.#. .#...#. .#####. .......");
+    let walks = contours(&layer);
+    let firsts = walks.iter().map(|walk| walk[0] as u64).collect();
+    let of_all = |layer: &Layer, walks: &[Contour]| -> Vec<u64> {
+        depths(layer, walks)
+            .iter()
+            .map(|&depth| depth as u64)
+            .collect()
+    };
+    let table = traced(&layer).table;
+    let (mut items, mut floats) = (vec![0; 44], vec![-1.0; 80]);
+    let listed = planner(7, 9, &layer.bitmap(), &table, &mut items, &mut floats);
+    let moves = (0..items.len()).filter(|&i| items[i] == 0x4D);
+    // The items before a move have a point each, but for the closes of the contours before.
+    let points = moves.enumerate().map(|(before, i)| 2 * (i - before));
+    let doubled = points.flat_map(|i| [2.0 * floats[i], 2.0 * floats[i + 1]]);
+    let squares = frames(1024, 1024);
+    let deepest: Vec<u64> = (0..=510).collect();
+    vec![
+        check("first sticks", &[6, 13, 20, 42], firsts),
+        check("depths", &[0, 1, 2, 0], of_all(&layer, &walks)),
+        check("a list of four contours", &[1], vec![listed.is_ok() as u64]),
+        check(
+            "its moves, in halves of the pitch",
+            &[1, 2, 1, 14, 3, 4, 5, 6],
+            doubled.map(|half| half as u64).collect(),
+        ),
+        check(
+            "depths of nested squares",
+            &deepest,
+            of_all(&squares, &contours(&squares)),
+        ),
+    ]
+}
+
 /// What is wrong with these cases, or with those of the questions' places.
 pub fn wrong() -> Vec<String> {
     let groups = vec![
@@ -270,6 +313,7 @@ pub fn wrong() -> Vec<String> {
         widths(),
         layer_program(),
         list(),
+        order(),
         places::checks(),
     ];
     let checks = groups.iter().flatten();

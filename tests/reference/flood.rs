@@ -16,7 +16,7 @@ fn parts(layer: &Layer, inside: bool, corners: bool) -> usize {
         let mut open = vec![start];
         seen[start] = true;
         while let Some(at) = open.pop() {
-            for near in neighbours(layer, at, corners) {
+            for near in layer.neighbours(at, corners) {
                 if !seen[near] && layer.sample(near % layer.w, near / layer.w) == inside {
                     seen[near] = true;
                     open.push(near);
@@ -25,22 +25,6 @@ fn parts(layer: &Layer, inside: bool, corners: bool) -> usize {
         }
     }
     parts
-}
-
-fn neighbours(layer: &Layer, at: usize, corners: bool) -> Vec<usize> {
-    let (c, r) = ((at % layer.w) as i64, (at / layer.w) as i64);
-    let mut found = Vec::new();
-    for dr in -1..=1 {
-        for dc in -1..=1 {
-            let far = dc != 0 && dr != 0;
-            let (x, y) = (c + dc, r + dr);
-            let on_grid = x >= 0 && y >= 0 && x < layer.w as i64 && y < layer.h as i64;
-            if on_grid && (corners || !far) && (dc, dr) != (0, 0) {
-                found.push(y as usize * layer.w + x as usize);
-            }
-        }
-    }
-    found
 }
 
 /// How many contours there are: since diagonal inside samples are not linked, one

@@ -63,6 +63,20 @@ impl Layer {
         c == 0 || r == 0 || c == self.w - 1 || r == self.h - 1
     }
 
+    /// The samples next to this one, all by r×W+c: over the four sides, or over the corners too.
+    pub fn neighbours(&self, at: usize, corners: bool) -> impl Iterator<Item = usize> + '_ {
+        let (c, r) = (at % self.w, at / self.w);
+        let (columns, rows) = (c.saturating_sub(1)..=c + 1, r.saturating_sub(1)..=r + 1);
+        let square = rows.flat_map(move |y| columns.clone().map(move |x| (x, y)));
+        let near = square.filter(move |&(x, y)| match (x == c, y == r) {
+            (true, true) => false,
+            (false, false) => corners,
+            _ => true,
+        });
+        near.filter(move |&(x, y)| x < self.w && y < self.h)
+            .map(move |(x, y)| y * self.w + x)
+    }
+
     /// Question 5: "(W-1)×H + W×(H-1)".
     pub fn edge_count(&self) -> usize {
         (self.w - 1) * self.h + self.w * (self.h - 1)

@@ -1,5 +1,5 @@
-// The reference that Puzhenim is compared with: every call of the paper, written
-// from that paper alone, and the vectors that both are run on.
+// The reference that Puzhenim is compared with: every call of the paper and its
+// changes, written from these alone, and the vectors that both are run on.
 // Build: rustc -O --edition 2021 -o reference tests/reference/main.rs
 
 mod brute;
@@ -7,10 +7,12 @@ mod builder;
 mod cases;
 mod chord;
 mod contour;
+mod depth;
 mod flood;
 mod hold;
 mod layer;
 mod machine;
+mod order;
 mod picture;
 mod places;
 mod planner;

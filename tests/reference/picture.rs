@@ -1,5 +1,5 @@
 // Layers that vectors are made of: random ones, checkerboards, spirals,
-// serpentines, frames, discs and rings.
+// serpentines, frames, discs, rings, and contours within contours.
 
 use crate::layer::Layer;
 use crate::prng::Rng;
@@ -54,6 +54,17 @@ pub fn shown(rows: &str) -> Layer {
         .map(|row| row.as_bytes())
         .collect();
     drawn(rows[0].len(), rows.len(), |c, r| rows[r][c] == b'#')
+}
+
+/// All layers of so many columns and rows.
+pub fn every(side: usize) -> impl Iterator<Item = Layer> {
+    let inner = side - 2;
+    let layer = move |bits: usize| {
+        drawn(side, side, |c, r| {
+            bits >> ((r - 1) * inner + c - 1) & 1 == 1
+        })
+    };
+    (0..1 << (inner * inner)).map(layer)
 }
 
 pub fn full(w: usize, h: usize) -> Layer {
@@ -151,4 +162,70 @@ pub fn discs(rng: &mut Rng, w: usize, h: usize, count: usize) -> Layer {
             inner * inner <= distance && distance < outer * outer
         })
     })
+}
+
+/// Contours within contours, some of which touch on a diagonal. In most of them
+/// the order by depth is another than that by first stick.
+pub fn nested() -> Vec<Layer> {
+    let pictures = [
+        // a ring around a sample, and a sample above it
+        "....... .#..... ....... .#####. .#...#. .#.#.#. .#...#. .#####. .......",
+        // rings side by side with smaller ones within, the right one lower
+        "............... .#####..######. .#...#..#....#. .#.#.#..#.##.#. .#...#..#.##.#. .#####..#....#. ........######. ...............",
+        // two bores side by side in one outline, an outline in each
+        "............. .###########. .#...#.....#. .#.#.#.###.#. .#...#.#.#.#. .#####.###.#. .....#.....#. .....#######. .............",
+        // a bore that holds an outline that touches it on one diagonal, on the other, and on two
+        "........ .######. .#....#. .#.#..#. .##...#. .#....#. .######. ........",
+        "........ .######. .#....#. .##...#. .#.#..#. .#....#. .######. ........",
+        "......... .#######. .##...##. .#.#.#.#. .#..#..#. .#.....#. .#######. .........",
+        // two outlines that touch, in a bore; one of them a ring
+        "........ .######. .#....#. .#..#.#. .#.#..#. .#....#. .######. ........",
+        ".......... .########. .#......#. .#.###..#. .#.#.#..#. .#.###..#. .#....#.#. .#......#. .########. ..........",
+        // outside joined over a corner: a ring that is open there, and one bore in place of two
+        "...... ..###. .#..#. .#..#. .####. ......",
+        "....... .#####. .#.##.. .##.##. .#####. .......",
+    ];
+    pictures.iter().map(|rows| shown(rows)).collect()
+}
+
+/// The rectangles that are drawn within one, from its lowest to its highest sample
+/// each way: none, one, or two side by side or one above the other.
+fn within(rng: &mut Rng, [left, low, right, high]: [usize; 4]) -> Vec<[usize; 4]> {
+    let margin = rng.pick(&[1, 1, 1, 2]);
+    if right < left + 2 * margin || high < low + 2 * margin || rng.chance(1, 12) {
+        return Vec::new();
+    }
+    let (left, right) = (left + margin, right - margin);
+    let (low, high) = (low + margin, high - margin);
+    let (wide, tall) = (right - left >= 2, high - low >= 2);
+    if !(wide || tall) || rng.chance(1, 2) {
+        return vec![[left, low, right, high]];
+    }
+    if tall && (!wide || rng.chance(1, 2)) {
+        let gap = rng.between(low + 1, high - 1);
+        return vec![[left, low, right, gap - 1], [left, gap + 1, right, high]];
+    }
+    let gap = rng.between(left + 1, right - 1);
+    vec![[left, low, gap - 1, high], [gap + 1, low, right, high]]
+}
+
+/// Rings in rings and rings side by side, at random; then so many samples are
+/// turned over, so that some contours open or touch on a diagonal.
+pub fn rings(rng: &mut Rng, w: usize, h: usize, turned: usize) -> Layer {
+    let mut layer = Layer::blank(w, h);
+    let mut open = vec![([0, 0, w - 1, h - 1], false)];
+    while let Some((area, inside)) = open.pop() {
+        let [left, low, right, high] = area;
+        for r in low..=high {
+            for c in left..=right {
+                layer.set(c, r, inside);
+            }
+        }
+        open.extend(within(rng, area).into_iter().map(|part| (part, !inside)));
+    }
+    for _ in 0..turned {
+        let (c, r) = (rng.between(1, w - 2), rng.between(1, h - 2));
+        layer.set(c, r, !layer.sample(c, r));
+    }
+    layer
 }

@@ -1,6 +1,8 @@
 // The planner's list: moves, lines and closes, one byte per item in one output
 // and the coordinates in another.
 
+use crate::contour::Contour;
+use crate::depth::depths;
 use crate::hold::{ask_1_to_7, drawn_edges, vertex_of};
 use crate::layer::{refuse, Layer, Refusal};
 
@@ -48,8 +50,16 @@ fn items_of_contour(layer: &Layer, contour: &[usize], table: &[u16]) -> Vec<Item
     items
 }
 
-/// The planner's list, its contours in the order of their first sticks.
-/// Questions 1 to 7 and 14. "Written out are one byte per item (hex 4D, 6C, 5A)
+/// "In its list, contours now come by depth, which is the number of other contours
+/// around them, and among equal depth by first stick number."
+fn by_depth(layer: &Layer, contours: Vec<Contour>) -> Vec<Contour> {
+    let depths = depths(layer, &contours);
+    let mut listed: Vec<(usize, Contour)> = depths.into_iter().zip(contours).collect();
+    listed.sort_by_key(|(depth, contour)| (*depth, contour[0]));
+    listed.into_iter().map(|(_, contour)| contour).collect()
+}
+
+/// The planner's list. Questions 1 to 7 and 14. "Written out are one byte per item (hex 4D, 6C, 5A)
 /// in one output, and x then y per point, as 64-bit floats, in a second."
 pub fn planner(
     w: u16,
@@ -60,6 +70,7 @@ pub fn planner(
     floats: &mut [f64],
 ) -> Result<Listed, Refusal> {
     let (layer, contours) = ask_1_to_7(w, h, bitmap, table)?;
+    let contours = by_depth(&layer, contours);
     let mut letters: Vec<u8> = Vec::new();
     let mut numbers: Vec<f64> = Vec::new();
     for item in contours

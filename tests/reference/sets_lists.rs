@@ -80,8 +80,27 @@ fn every_call(b: &mut Builder, layer: &Layer) {
         items,
         floats: items,
     });
-    b.layer(layer);
+    b.table(layer.edge_count());
     b.add(Command::ReadSheet { bytes });
+}
+
+/// The planner's list of the layer that is set.
+fn whole_list(b: &mut Builder) {
+    let items = 2 * b.sticks().len() as u32;
+    b.add(Command::Planner {
+        items,
+        floats: items,
+    });
+}
+
+/// As many contours one in the other as a layer can have, with first vertices removed, and simplified.
+fn deepest(b: &mut Builder) {
+    b.traced(&picture::frames(1024, 1024));
+    b.remove_firsts(3);
+    whole_list(b);
+    b.add(Command::Trace);
+    b.add(Command::Simplify { t: 255 });
+    whole_list(b);
 }
 
 /// A roll of one edit of a stick.
@@ -106,6 +125,9 @@ pub fn large(b: &mut Builder) {
     let (w, h) = (b.rng.between(90, 160), b.rng.between(90, 160));
     every_call(b, &picture::serpentine(w, h));
     every_call(b, &picture::spiral(w, h));
+    let rings = picture::rings(&mut b.rng, 80, 70, 20);
+    every_call(b, &rings);
     let largest = picture::discs(&mut b.rng, 1024, 1024, 6);
     every_call(b, &largest);
+    deepest(b);
 }

@@ -201,11 +201,13 @@ pub fn sheet(b: &mut Builder) {
     for _ in 0..8 {
         sheet_of_another(b);
     }
+    for layer in picture::nested() {
+        write_and_read(b, &layer);
+    }
 }
 
-/// Lists into outputs of nearly right lengths.
-fn list(b: &mut Builder, layer: &Layer) {
-    worked(b, layer);
+/// Lists of the layer that is set into outputs of nearly right lengths.
+fn list(b: &mut Builder) {
     let kept = b
         .machine
         .table
@@ -245,7 +247,8 @@ pub fn planner(b: &mut Builder) {
         }),
     );
     for layer in first_layers() {
-        list(b, &layer);
+        worked(b, &layer);
+        list(b);
     }
     for (w, h) in [(1024, 3), (3, 1024)] {
         let wide = picture::random(&mut b.rng, w, h, 8);
@@ -257,8 +260,40 @@ pub fn planner(b: &mut Builder) {
     }
     for _ in 0..20 {
         let layer = b.some_layer(16);
-        list(b, &layer);
+        worked(b, &layer);
+        list(b);
     }
+    contours_within_contours(b);
+    deep(b);
+}
+
+/// Nested layers, with the first vertices of contours removed too, so that a move
+/// leads to another stick than the first.
+fn contours_within_contours(b: &mut Builder) {
+    let mut layers = picture::nested();
+    for most in [12, 12, 12, 12, 20, 20, 20, 20, 32, 32] {
+        let (w, h) = (b.rng.between(7, most), b.rng.between(7, most));
+        let turned = b.rng.pick(&[0, 2, 6]);
+        layers.push(picture::rings(&mut b.rng, w, h, turned));
+    }
+    for layer in layers {
+        worked(b, &layer);
+        list(b);
+        b.traced(&layer);
+        let sixteenths = b.rng.pick(&[0, 4]);
+        b.jitter(sixteenths);
+        b.remove_firsts(3);
+        list(b);
+    }
+}
+
+/// More than a hundred contours one in the other, with few vertices left.
+fn deep(b: &mut Builder) {
+    b.traced(&picture::frames(230, 230));
+    b.add(Command::Simplify { t: 255 });
+    list(b);
+    b.remove_firsts(2);
+    list(b);
 }
 
 /// What the layer program reads for a layer.

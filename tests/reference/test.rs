@@ -6,10 +6,12 @@ use crate::builder::Builder;
 use crate::cases::{self, call, traced};
 use crate::chord::{crosses, meets, vertex, Fraction, Point};
 use crate::contour::contours;
+use crate::depth::depths;
 use crate::flood;
 use crate::hold::{contour_is_held, is_kept, is_removed};
 use crate::layer::{ask_1_to_4, Layer};
 use crate::machine::{answers, Machine};
+use crate::order;
 use crate::picture;
 use crate::planner::planner;
 use crate::prng::Rng;
@@ -231,6 +233,32 @@ fn listed(wrong: &mut Wrong, machine: &Machine, layer: &Layer) {
     });
 }
 
+/// The order of the planner's list against the slow reading: on every layer of 4
+/// by 4 and of 5 by 5, and on nested and random ones, as traced and with vertices
+/// removed.
+fn orders(wrong: &mut Wrong, seed: u64) {
+    let mut b = Builder::new(seed);
+    let mut layers: Vec<Layer> = picture::every(4).chain(picture::every(5)).collect();
+    layers.extend(picture::nested());
+    for _ in 0..1000 {
+        layers.push(picture::any(&mut b.rng, 12));
+        let (w, h) = (b.rng.between(5, 20), b.rng.between(5, 20));
+        let turned = b.rng.below(8);
+        layers.push(picture::rings(&mut b.rng, w, h, turned));
+    }
+    for layer in layers {
+        b.traced(&layer);
+        let traced = b.machine.table.clone();
+        b.remove_firsts(3);
+        b.thin(8);
+        for table in [&traced, &b.machine.table] {
+            if let Some(what) = order::wrong_with(&layer, table) {
+                wrong.push(format!("{}: {:?} {:?}", what, layer, table));
+            }
+        }
+    }
+}
+
 /// A random edit roll of one to three edits on any edge.
 fn random_roll(b: &mut Builder) -> Vec<u8> {
     let mut bytes = Vec::new();
@@ -360,6 +388,10 @@ fn sets(wrong: &mut Wrong, seed: Option<u64>) {
 fn refusals_write_nothing(wrong: &mut Wrong, commands: &[Command]) {
     let mut machine = Machine::default();
     for command in commands {
+        if matches!(command, Command::Poke { .. }) {
+            machine.run(command);
+            continue;
+        }
         let is_roll = matches!(command, Command::Roll { .. });
         let before = machine.table.clone();
         if let Some(answer) = machine.run(command) {
@@ -411,6 +443,37 @@ fn stops(wrong: &mut Wrong) {
     expect(wrong, long, || "no long roll".to_string());
 }
 
+/// The set for the planner's list has contours within more than a hundred others,
+/// lists in another order than that of first sticks, and moves of contours within
+/// others to another stick than their first.
+fn order_shows(wrong: &mut Wrong) {
+    let bytes = script("planner", None).expect("the set has this name");
+    let mut machine = Machine::default();
+    let (mut deepest, mut reordered, mut moved) = (0, 0, 0);
+    for command in parse(&bytes).expect("a set is a good script") {
+        let is_list = matches!(command, Command::Planner { .. });
+        let done = machine
+            .run(&command)
+            .map_or(false, |answer| answer.number == 0);
+        if !is_list || !done {
+            continue;
+        }
+        let layer = ask_1_to_4(machine.w, machine.h, &machine.bitmap).expect("the list is done");
+        let walks = contours(&layer);
+        let depths = depths(&layer, &walks);
+        let first_removed = |i: usize| depths[i] > 0 && is_removed(machine.table[walks[i][0]]);
+        deepest = depths.iter().copied().chain([deepest]).max().unwrap_or(0);
+        reordered += depths.windows(2).any(|pair| pair[0] > pair[1]) as usize;
+        moved += (0..walks.len()).any(first_removed) as usize;
+    }
+    expect(wrong, deepest > 100 && reordered > 20 && moved > 20, || {
+        format!(
+            "depth {}, {} lists reordered, {} moved",
+            deepest, reordered, moved
+        )
+    });
+}
+
 /// Does the line answer the calls that the set is about?
 fn is_main(name: &str, line: &str) -> bool {
     let letters = match name {
@@ -438,8 +501,10 @@ pub fn wrong(seed: Option<u64>) -> Vec<String> {
     counting(&mut wrong, &mut rng);
     held_or_not(&mut wrong, &mut rng);
     call_lists(&mut wrong, rng.next());
+    orders(&mut wrong, rng.next());
     sets(&mut wrong, seed);
     settling(&mut wrong);
     stops(&mut wrong);
+    order_shows(&mut wrong);
     wrong
 }

@@ -7,7 +7,7 @@ use crate::help;
 use crate::job::Job;
 use crate::picture;
 use crate::progress::Progress;
-use puzhenim::{Item, List, Refusal, Vertex};
+use puzhenim::{Item, Kind, List, Refusal, Vertex};
 use std::ffi::OsStr;
 use std::path::Path;
 
@@ -65,7 +65,7 @@ fn slice(args: &Args) -> Result<(), Failure> {
     files::write(&[(output, &sheet)])?;
     drop(progress);
     let settled = if smoothed.settled { "settled" } else { "not settled" };
-    report(output, &format!("passes: {} ({}), vertices removed: {}\n", smoothed.passes, settled, simplified.removed))
+    report(&[output], &format!("passes: {} ({}), vertices removed: {}\n", smoothed.passes, settled, simplified.removed))
 }
 
 fn roll(args: &Args) -> Result<(), Failure> {
@@ -81,7 +81,7 @@ fn roll(args: &Args) -> Result<(), Failure> {
     let sheet = job.layer().sheet(&table).map_err(|refusal| job.refused(refusal))?;
     files::write(&[(output, &sheet)])?;
     drop(progress);
-    report(output, &format!("commands done: {}\n", done))
+    report(&[output], &format!("commands done: {}\n", done))
 }
 
 fn roll_refused(path: &OsStr, refusal: Refusal) -> Failure {
@@ -101,14 +101,19 @@ fn plan(args: &Args) -> Result<(), Failure> {
     let table = job.read_sheet(&progress)?;
     progress.step("planning");
     let list = job.layer().list(&table).map_err(|refusal| job.refused(refusal))?;
+    let kinds = job.layer().kinds().map_err(|refusal| job.refused(refusal))?;
     progress.step("writing");
     match points {
-        None => files::write(&[(output, as_text(&list).as_bytes())]),
+        None => files::write(&[(output, as_text(&list).as_bytes())])?,
         Some(points) => {
             let floats: Vec<u8> = list.points.iter().flat_map(|float| float.to_le_bytes()).collect();
-            files::write(&[(output, &list.items), (points, &floats)])
+            files::write(&[(output, &list.items), (points, &floats)])?;
         }
     }
+    drop(progress);
+    let outlines = kinds.iter().filter(|kind| **kind == Kind::Outline).count();
+    let text = format!("outlines: {}, bores: {}, each after those around it\n", outlines, kinds.len() - outlines);
+    report(&[output, points.unwrap_or(output)], &text)
 }
 
 /// A line an item. A coordinate is a whole number of 1/256ths of at most 12 digits, so its shortest decimal is exact.
@@ -168,9 +173,9 @@ fn draw(args: &Args) -> Result<(), Failure> {
     files::write(&[(output, picture.as_bytes())])
 }
 
-/// Figures of a run, unless standard output is where its output goes.
-fn report(output: &OsStr, text: &str) -> Result<(), Failure> {
-    if output == "-" {
+/// Figures of a run, unless standard output is where an output goes.
+fn report(outputs: &[&OsStr], text: &str) -> Result<(), Failure> {
+    if outputs.contains(&OsStr::new("-")) {
         return Ok(());
     }
     files::say(text)

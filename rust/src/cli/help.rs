@@ -60,6 +60,10 @@ puzhenim plan IN SHEET -o LIST [--binary POINTS] [--pad]
 Writes the planner's list, a line each item: M x y begins a contour, l x y draws
 a line, Z closes the contour. x and y are in samples and exact, y upward.
 
+Contours come by depth, the number of others around them, and among equal depth
+by their first stick: an outline comes before the bores within it, a bore before
+the outlines within it. Says how many outlines and bores were written.
+
   -o LIST           where the list goes
   --binary POINTS   LIST gets a byte an item (M, l, Z) and POINTS x and y of each
                     point, as 64-bit floats, low byte first

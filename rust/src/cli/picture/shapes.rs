@@ -1,12 +1,12 @@
 //! What is drawn inside the frame: contours from the planner's list, removed vertices from the table, samples.
 
 use super::frame::Frame;
-use puzhenim::{Layer, Refusal, Vertex};
+use puzhenim::{Kind, Layer, Refusal, Vertex};
 
 type Point = (i64, i64);
 
 pub struct Shapes {
-    /// The larger first, so that what lies within another is drawn over it.
+    /// In the order of the list, so that what lies within another is drawn over it.
     contours: Vec<Contour>,
     pub removed: Vec<Point>,
     pub outlines: usize,
@@ -15,22 +15,14 @@ pub struct Shapes {
 
 struct Contour {
     points: Vec<Point>,
-    /// Twice the area, above 0 if it is walked counter-clockwise.
-    area: i64,
+    kind: Kind,
 }
 
 impl Contour {
     /// The points are whole 1/256ths given in samples.
-    fn of(points: &[(f64, f64)]) -> Contour {
-        let points: Vec<Point> = points.iter().map(|(x, y)| ((x * 256.0) as i64, (y * 256.0) as i64)).collect();
-        let after = points.iter().cycle().skip(1);
-        let area = points.iter().zip(after).map(|(p, q)| p.0 * q.1 - q.0 * p.1).sum();
-        Contour { points, area }
-    }
-
-    /// Inside is on the left, so a contour around inside samples goes counter-clockwise and one around outside samples clockwise.
-    fn is_outline(&self) -> bool {
-        self.area > 0
+    fn of((points, kind): (&Vec<(f64, f64)>, Kind)) -> Contour {
+        let points = points.iter().map(|(x, y)| ((x * 256.0) as i64, (y * 256.0) as i64)).collect();
+        Contour { points, kind }
     }
 
     fn add_to(&self, path: &mut String) {
@@ -46,9 +38,8 @@ impl Contour {
 
 impl Shapes {
     pub fn of(layer: Layer, table: &[u16]) -> Result<Shapes, Refusal> {
-        let mut contours: Vec<Contour> = layer.list(table)?.contours().iter().map(|points| Contour::of(points)).collect();
-        contours.sort_by_key(|contour| -contour.area.abs());
-        let outlines = contours.iter().filter(|contour| contour.is_outline()).count();
+        let contours: Vec<Contour> = layer.list(table)?.contours().iter().zip(layer.kinds()?).map(Contour::of).collect();
+        let outlines = contours.iter().filter(|contour| contour.kind == Kind::Outline).count();
         let bores = contours.len() - outlines;
         Ok(Shapes { contours, removed: removed(layer, table), outlines, bores })
     }
@@ -66,19 +57,22 @@ impl Shapes {
         }
         if frame.marks_vertices() {
             svg += &dots("removed", frame.pen(frame.mark(3.6)), self.removed.iter().copied());
-            svg += &dots("kept-outline", frame.pen(frame.mark(6.0)), self.kept_on(true));
-            svg += &dots("kept-bore", frame.pen(frame.mark(6.0)), self.kept_on(false));
+            svg += &dots("kept-outline", frame.pen(frame.mark(6.0)), self.kept_on(Kind::Outline));
+            svg += &dots("kept-bore", frame.pen(frame.mark(6.0)), self.kept_on(Kind::Bore));
         }
         Ok(svg)
     }
 
-    /// The contours, as many of one kind in a path as follow each other: none of these lies within another of them.
+    /// The contours, as many of one kind in a path as follow each other: these have one depth, and none lies within another of them.
     fn paths(&self, frame: &Frame) -> String {
         let mut svg = String::new();
         let mut rest = &self.contours[..];
         while let Some(first) = rest.first() {
-            let length = rest.iter().take_while(|contour| contour.is_outline() == first.is_outline()).count();
-            let class = if first.is_outline() { "outline" } else { "bore" };
+            let length = rest.iter().take_while(|contour| contour.kind == first.kind).count();
+            let class = match first.kind {
+                Kind::Outline => "outline",
+                Kind::Bore => "bore",
+            };
             svg += &format!("<path class=\"{}\" stroke-width=\"{}\" d=\"", class, frame.pen(frame.line()));
             let (drawn, left) = rest.split_at(length);
             drawn.iter().for_each(|contour| contour.add_to(&mut svg));
@@ -88,8 +82,8 @@ impl Shapes {
         svg
     }
 
-    fn kept_on(&self, outlines: bool) -> impl Iterator<Item = Point> + '_ {
-        let contours = self.contours.iter().filter(move |contour| contour.is_outline() == outlines);
+    fn kept_on(&self, kind: Kind) -> impl Iterator<Item = Point> + '_ {
+        let contours = self.contours.iter().filter(move |contour| contour.kind == kind);
         contours.flat_map(|contour| contour.points.iter().copied())
     }
 }
