@@ -47,6 +47,18 @@ unfolding sum
 sum-add f g zero = refl
 sum-add f g (suc n) = omega (arith, sum-add f g n)
 
+pub sum-more : (f : ℕ → ℕ) (n : ℕ) → sum f (n + 1) ≡ sum f n + f n
+unfolding sum
+sum-more f n = rw add-one
+
+pub sum-mono : (f : ℕ → ℕ) (m n : ℕ) → m ≤ n → sum f m ≤ sum f n
+unfolding sum
+sum-mono f m zero h = let e : m ≡ 0 = omega arith in rw e (omega arith)
+sum-mono f m (suc n) h = elim (ℕ-discrete m (suc n)) [
+  | yes e ↦ rw e (omega arith)
+  | no d ↦ omega (arith, sum-mono f m n (omega arith))
+]
+
 pub sum-none : (f : ℕ → ℕ) (n : ℕ) → ((k : ℕ) → k < n → f k ≡ 0) → sum f n ≡ 0
 unfolding sum
 sum-none f zero h = refl

@@ -1,5 +1,6 @@
 -- Laws on numbers and lists that more than one crate cites.
 pub mod Booleans
+pub mod Lists
 pub mod Ranges
 pub mod Counting
 pub mod Finite

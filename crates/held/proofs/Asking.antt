@@ -8,6 +8,7 @@ use lib.Dec.{leb}
 use lib.ListN.{length}
 use Rattle.arith.specs.Booleans.{asNumber}
 use Rattle.arith.proofs.Booleans.{one-le}
+use Rattle.arith.proofs.Lists.{among-most}
 use Rattle.arith.specs.Lists.{each, among}
 use Rattle.grid.specs.Layer.{Layer}
 use Rattle.grid.specs.Edges.{isStick}
@@ -37,10 +38,6 @@ use Rattle.held.specs.Held.{heldContour, heldAnswer, firstUnheld}
 use Rattle.held.specs.Questions.{entryQuestions, heldQuestions, keptQuestions, Accepted}
 
 -- One contour
-
-among-most : {A : Type 0} (f : A → Bool) (l : List A) → among f l ≤ length l
-among-most f [] = omega arith
-among-most f (x ∷ l) = omega (arith, one-le (f x), among-most f l)
 
 -- whether the drawn edges of these sticks cross what they must
 abbrev pub allCross : Layer → List ℕ → List Edge → Bool

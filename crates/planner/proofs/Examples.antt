@@ -6,18 +6,20 @@ use Prim.Native.Nat.{ℕ}
 use lib.IntN.{pos, negsuc}
 use lib.Ieee.{Float, fin, nan, ofInt, div}
 use Rattle.arith.specs.Ranges.{leastFrom}
+use Rattle.arith.specs.Levels.{atLevel, byLevel}
 use Rattle.grid.specs.Layer.{Layer, layerOf, sizeOf, sample, bit}
 use Rattle.grid.specs.Edges.{number, edgeCount, edgeAt, isStick}
 use Rattle.grid.specs.Questions.{sidesAnswer, lengthAnswer, spareAnswer, borderAnswer}
 use Rattle.step.specs.Walk.{next, prev}
-use Rattle.contour.specs.Walk.{firstsAmong}
-use Rattle.contour.specs.Contours.{firstSticks}
+use Rattle.contour.specs.Walk.{firstsAmong, occurrences}
+use Rattle.winding.specs.Turns.{isOn, turnsAmong, turns, depth}
 use Rattle.table.specs.Entries.{entryOf, entriesAnswer, tableLengthAnswer}
 use Rattle.table.specs.Vertices.{keptAt, removedAt, offsetAt}
 use Rattle.drawn.specs.Neighbours.{removedFrom, keptFrom}
 use Rattle.drawn.specs.Drawn.{edgeCrosses}
 use Rattle.held.specs.Held.{heldContour, heldAnswer}
 use Rattle.item.specs.Items.{inSamples}
+use Rattle.planner.specs.Items.{listOrder}
 use Rattle.planner.specs.Plan.{roomAnswer, answered, planOf}
 
 -- "W 3, H 3, inside (1,1)", every stick kept at 128
@@ -38,7 +40,7 @@ abbrev three-halves : Float
 three-halves = fin false 3 (negsuc 0)
 
 -- a move to the vertex on the left, lines to those below, on the right and above, a close; what lies past the answer stays
-pub single-list : planOf single traced (firstSticks single) (7 ∷ 7 ∷ 7 ∷ 7 ∷ 7 ∷ 7 ∷ []) (nan ∷ nan ∷ nan ∷ nan ∷ nan ∷ nan ∷ nan ∷ nan ∷ [])
+pub single-list : planOf single traced (7 ∷ 7 ∷ 7 ∷ 7 ∷ 7 ∷ 7 ∷ []) (nan ∷ nan ∷ nan ∷ nan ∷ nan ∷ nan ∷ nan ∷ nan ∷ [])
     ≡ record {
       refusal = 0;
       place = 0;
@@ -49,11 +51,11 @@ pub single-list : planOf single traced (firstSticks single) (7 ∷ 7 ∷ 7 ∷ 7
     }
 unfolding sidesAnswer lengthAnswer spareAnswer borderAnswer tableLengthAnswer entriesAnswer heldAnswer heldContour edgeCrosses
     firstsAmong number edgeCount edgeAt isStick sample bit next prev xor leastFrom keptAt removedAt offsetAt removedFrom keptFrom entryOf
-    roomAnswer answered inSamples div ofInt flatten
+    roomAnswer answered inSamples div ofInt flatten listOrder byLevel atLevel depth turns turnsAmong isOn occurrences
 single-list = refl
 
 -- one float too few: 14, and nothing is written
-pub single-short : planOf single traced (firstSticks single) (7 ∷ 7 ∷ 7 ∷ 7 ∷ 7 ∷ []) (nan ∷ nan ∷ nan ∷ nan ∷ nan ∷ nan ∷ nan ∷ [])
+pub single-short : planOf single traced (7 ∷ 7 ∷ 7 ∷ 7 ∷ 7 ∷ []) (nan ∷ nan ∷ nan ∷ nan ∷ nan ∷ nan ∷ nan ∷ [])
     ≡ record {
       refusal = 14;
       place = 0;
@@ -64,5 +66,5 @@ pub single-short : planOf single traced (firstSticks single) (7 ∷ 7 ∷ 7 ∷ 
     }
 unfolding sidesAnswer lengthAnswer spareAnswer borderAnswer tableLengthAnswer entriesAnswer heldAnswer heldContour edgeCrosses
     firstsAmong number edgeCount edgeAt isStick sample bit next prev xor leastFrom keptAt removedAt offsetAt removedFrom keptFrom entryOf
-    roomAnswer answered inSamples div ofInt flatten
+    roomAnswer answered inSamples div ofInt flatten listOrder byLevel atLevel depth turns turnsAmong isOn occurrences
 single-short = refl

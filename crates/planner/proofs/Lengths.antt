@@ -1,56 +1,133 @@
--- How much there is to write: an item for each drawn edge and one for each contour, and two floats for each drawn edge.
-use mathlib.Core.Path.{_≡_, refl, ap, _∙_}
+-- How much there is to write. Of a contour an item for each drawn edge and one more, and two floats for each drawn edge; of the list what its
+-- contours write, one after the other, and so as much as in any other order.
+use mathlib.Core.Path.{_≡_, refl, sym, ap, _∙_}
 use mathlib.Core.Bool.{Bool, true, false}
-use mathlib.Core.List.{List, [], _∷_, _++_, flatten}
-use Prim.Native.Nat.{ℕ, _+_, _*_}
+use mathlib.Core.List.{List, [], _∷_, _++_, map, flatten, append-assoc, map-append}
+use Prim.Native.Nat.{ℕ, _+_, _*_, _≤_}
 use native.Mathlib.Omega.{arith}
-use lib.ListN.{length, length-append, length-map}
+use lib.ListN.{length, length-map}
+use lib.Ieee.{Float}
+use Rattle.arith.specs.Levels.{total, partsOf, partsBelow}
+use Rattle.arith.specs.Ranges.{count}
+use Rattle.arith.proofs.Levels.{parts-total}
+use Rattle.arith.proofs.Ranges.{count-le}
 use Rattle.grid.specs.Layer.{Layer}
+use Rattle.grid.specs.Edges.{edgeAt, edgeCount}
+use Rattle.grid.specs.Questions.{Sound}
 use Rattle.grid.specs.declared.edge.Edge.{Edge}
-use Rattle.drawn.specs.Drawn.{Ends, drawnOf, drawnAlong}
-use Rattle.item.specs.Items.{byteOf, bytesOf, floatsOf}
-use Rattle.planner.specs.Items.{itemsTo, itemsOf, contourItems}
+use Rattle.grid.proofs.Numbers.{edges-small}
+use Rattle.contour.specs.Walk.{first}
+use Rattle.contour.specs.Contours.{walkOf, contourOf, firstSticks, contourCount}
+use Rattle.contour.proofs.Theorems.{contour-count}
+use Rattle.winding.specs.Turns.{depth}
+use Rattle.drawn.specs.Drawn.{Ends, drawnOf, drawnEdges}
+use Rattle.drawn.proofs.DrawnEdges.{drawn-many}
+use Rattle.held.specs.Questions.{Accepted}
+use Rattle.item.specs.Items.{byteOf, bytesOf, floatsIn, floatsOf}
 use Rattle.item.specs.declared.item.Item.{Item}
-use Rattle.item.proofs.Writing.{floats-append}
+use Rattle.planner.specs.Items.{itemsTo, itemsOf, contourItems, listOrder, listedItems}
+use Rattle.planner.specs.Writing.{depths, most, keptEntry, contourBytes, contourFloats}
+use Rattle.planner.proofs.Order.{order-total, order-depths}
 
--- a number that two lists of items have together as each has it
-record Additive (size : List Item → ℕ) : Type 0 where
-  none : size [] ≡ 0
-  both : (l m : List Item) → size (l ++ m) ≡ size l + size m
+-- One contour
 
 module _ (L : Layer) (t : List ℕ) where
-  -- One contour
-
-  items-many : (due : Bool) (l : List Ends) → length (itemsTo L t due l) ≡ 1 * length l + 1
+  items-many : (due : Bool) (l : List Ends) → length (itemsTo L t due l) ≡ length l + 1
   items-many due [] = refl
   items-many due (d ∷ l) = omega (arith, items-many false l)
 
-  floats-many : (due : Bool) (l : List Ends) → length (floatsOf (itemsTo L t due l)) ≡ 2 * length l + 0
+  floats-many : (due : Bool) (l : List Ends) → length (floatsOf (itemsTo L t due l)) ≡ 2 * length l
   unfolding flatten
   floats-many due [] = refl
   floats-many true (d ∷ l) = omega (arith, floats-many false l)
   floats-many false (d ∷ l) = omega (arith, floats-many false l)
 
-  -- All contours of an order: a for each drawn edge and b for each contour
-  module _ {size : List Item → ℕ} (add : Additive size) (a b : ℕ)
-      (each : (l : List Ends) → size (itemsTo L t true l) ≡ a * length l + b) where
-    all-many : (order : List Edge) → size (itemsOf L t order) ≡ a * length (drawnAlong L t order) + b * length order
-    unfolding flatten
-    all-many [] = omega (arith, add .none)
-    all-many (f ∷ order) =
-        omega (
-          arith,
-          all-many order,
-          add .both (contourItems L t f) (itemsOf L t order),
-          each (drawnOf L t f),
-          ap (λ (n : ℕ). a * n) (length-append (drawnOf L t f) (drawnAlong L t order)),
-        )
+  pub contour-bytes : (f : Edge) → length (contourBytes L t f) ≡ length (drawnOf L t f) + 1
+  contour-bytes f = length-map (contourItems L t f) byteOf ∙ items-many true (drawnOf L t f)
 
-  pub bytes-length : (order : List Edge) → length (bytesOf (itemsOf L t order)) ≡ length (drawnAlong L t order) + length order
-  bytes-length order =
-      length-map (itemsOf L t order) byteOf
-      ∙ omega (arith, all-many (record { none = refl; both = length-append }) 1 1 (items-many true) order)
+  pub contour-floats : (f : Edge) → length (contourFloats L t f) ≡ 2 * length (drawnOf L t f)
+  contour-floats f = floats-many true (drawnOf L t f)
 
-  pub floats-length : (order : List Edge) → length (floatsOf (itemsOf L t order)) ≡ 2 * length (drawnAlong L t order)
+  -- by the number of its kept vertices
+  module _ (f : Edge) {n : ℕ} (tallied : n ≡ length (drawnOf L t f)) where
+    pub tallied-bytes : n + 1 ≡ length (contourBytes L t f)
+    tallied-bytes = omega (arith, tallied, contour-bytes f)
+
+    pub tallied-floats : 2 * n ≡ length (contourFloats L t f)
+    tallied-floats = omega (arith, tallied, contour-floats f)
+
+  -- Several, one after the other
+
+  floats-join : (l m : List Item) → floatsOf (l ++ m) ≡ floatsOf l ++ floatsOf m
   unfolding flatten
-  floats-length order = omega (arith, all-many (record { none = refl; both = floats-append }) 2 0 (floats-many true) order)
+  floats-join [] m = refl
+  floats-join (item ∷ l) m = ap (λ (x : List Float). floatsIn item ++ x) (floats-join l m) ∙ sym (append-assoc (floatsIn item) (floatsOf l) (floatsOf m))
+
+  bytes-parts : (order : List Edge) → bytesOf (itemsOf L t order) ≡ partsOf (contourBytes L t) order
+  unfolding flatten
+  bytes-parts [] = refl
+  bytes-parts (f ∷ order) =
+      map-append byteOf (contourItems L t f) (itemsOf L t order) ∙ ap (λ (x : List ℕ). contourBytes L t f ++ x) (bytes-parts order)
+
+  floats-parts : (order : List Edge) → floatsOf (itemsOf L t order) ≡ partsOf (contourFloats L t) order
+  unfolding flatten
+  floats-parts [] = refl
+  floats-parts (f ∷ order) =
+      floats-join (contourItems L t f) (itemsOf L t order) ∙ ap (λ (x : List Float). contourFloats L t f ++ x) (floats-parts order)
+
+  -- All of them: as many as in the order of first sticks
+
+  totals : (l : List Edge)
+      → (total (λ f. length (contourBytes L t f)) l ≡ total (λ f. length (drawnOf L t f)) l + length l)
+      × (total (λ f. length (contourFloats L t f)) l ≡ 2 * total (λ f. length (drawnOf L t f)) l)
+  totals [] = (refl, refl)
+  totals (f ∷ l) =
+      let later = totals l in
+      (omega (arith, later, contour-bytes f), omega (arith, later, contour-floats f))
+
+  drawn-total : length (drawnEdges L t) ≡ total (λ f. length (drawnOf L t f)) (firstSticks L)
+  drawn-total = parts-total (drawnOf L t) (firstSticks L)
+
+  pub bytes-length : length (bytesOf (listedItems L t)) ≡ length (drawnEdges L t) + contourCount L
+  bytes-length =
+      ap length (bytes-parts (listOrder L))
+      ∙ parts-total (contourBytes L t) (listOrder L)
+      ∙ order-total L (λ f. length (contourBytes L t f))
+      ∙ omega (arith, totals (firstSticks L), drawn-total, length-map (firstSticks L) (contourOf L))
+
+  pub floats-length : length (floatsOf (listedItems L t)) ≡ 2 * length (drawnEdges L t)
+  floats-length =
+      ap length (floats-parts (listOrder L))
+      ∙ parts-total (contourFloats L t) (listOrder L)
+      ∙ order-total L (λ f. length (contourFloats L t f))
+      ∙ omega (arith, totals (firstSticks L), drawn-total)
+
+  -- by the depths that the code counts
+  pub bytes-depths : Sound L → bytesOf (listedItems L t) ≡ partsBelow (depth L) (contourBytes L t) depths (firstSticks L)
+  bytes-depths sound = bytes-parts (listOrder L) ∙ ap (partsOf (contourBytes L t)) (order-depths sound)
+
+  pub floats-depths : Sound L → floatsOf (listedItems L t) ≡ partsBelow (depth L) (contourFloats L t) depths (firstSticks L)
+  floats-depths sound = floats-parts (listOrder L) ∙ ap (partsOf (contourFloats L t)) (order-depths sound)
+
+-- by the kept entries of an accepted table, which are as many as the drawn edges (drawn, DrawnEdges)
+module _ {L : Layer} {t : List ℕ} (accepted : Accepted L t) where
+  kept-all : length (drawnEdges L t) ≡ count (keptEntry t) (length t)
+  kept-all = drawn-many L t (accepted .sound) (accepted .entries) ∙ ap (count (keptEntry t)) (sym (accepted .exact))
+
+  pub bytes-all : length (bytesOf (listedItems L t)) ≡ count (keptEntry t) (length t) + contourCount L
+  bytes-all = omega (arith, bytes-length L t, kept-all)
+
+  pub floats-all : length (floatsOf (listedItems L t)) ≡ 2 * count (keptEntry t) (length t)
+  floats-all = omega (arith, floats-length L t, kept-all)
+
+  -- so no output is longer than a layer allows
+  pub bytes-most : length (bytesOf (listedItems L t)) ≤ most
+  bytes-most =
+      omega (arith, bytes-all, count-le (keptEntry t) (length t), accepted .exact, few, contour-count L, count-le (λ k. first (walkOf L) (edgeAt (L .size) k)) (edgeCount (L .size)))
+    where
+      few : edgeCount (L .size) ≤ 2095104
+      few = edges-small (L .size) (accepted .sound .whole .sized)
+
+  pub floats-most : length (floatsOf (listedItems L t)) ≤ most
+  floats-most =
+      omega (arith, floats-all, count-le (keptEntry t) (length t), accepted .exact, edges-small (L .size) (accepted .sound .whole .sized))

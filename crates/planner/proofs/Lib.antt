@@ -1,8 +1,9 @@
--- Lemmas of the planner's list: one contour, all contours, how much there is to write, that the order of contours changes no answer, and the
--- outcome.
+-- Lemmas of the planner's list: one contour, the order of the contours, how much there is to write, the contours at their depths' places, and
+-- the outcome.
 pub mod Walking
-pub mod Listing
+pub mod Order
 pub mod Lengths
-pub mod Orders
+pub mod Laying
+pub mod Sweeps
 pub mod Outcomes
 pub mod Examples

@@ -1,18 +1,18 @@
 -- Question 14 and the outcome of the call: how the lengths decide, and what is left in the outputs.
 use mathlib.Core.Path.{_≡_, refl, sym, ap, _∙_}
 use mathlib.Core.Bool.{Bool, true, false, _&&_}
-use mathlib.Core.List.{List, [], _∷_, foldl}
+use mathlib.Core.List.{List, [], _∷_}
 use Prim.Native.Nat.{ℕ, _+_, _*_, _≤_, _<_}
 use native.Mathlib.Omega.{arith}
 use borrow.Author.Tests.{le-leb, lt-leb}
 use lib.Dec.{leb}
 use lib.Ieee.{Float}
 use lib.ListN.{length, length-map}
+use lib.Seq.{sets}
 use Rattle.arith.specs.Ranges.{count}
 use Rattle.arith.proofs.Ranges.{count-le}
 use Rattle.grid.specs.Layer.{Layer}
 use Rattle.grid.specs.Questions.{firstNo, ask}
-use Rattle.grid.specs.declared.edge.Edge.{Edge}
 use Rattle.grid.specs.declared.question.Refusal.{Refusal}
 use Rattle.grid.specs.declared.question.Refusal.the-variants.{ShortOutput}
 use Rattle.grid.specs.declared.question.Answer.{Answer}
@@ -25,15 +25,12 @@ use Rattle.contour.specs.Sets.{FirstSet}
 use Rattle.contour.proofs.FirstSets.{set-count}
 use Rattle.held.specs.Questions.{heldQuestions, Accepted}
 use Rattle.item.specs.Items.{byteOf, bytesOf, floatsOf}
-use Rattle.planner.specs.Items.{itemsOf}
-use Rattle.planner.specs.Plan.{outcome, roomAnswer, answered, planOf, Promised}
-use Rattle.item.specs.Writing.{Buffers, buffersOf, atStart, writeItem, Room}
-use Rattle.planner.specs.Writing.{keptEntry, listOrder, listedItems, acceptedOf}
-use Rattle.planner.specs.declared.planning.Planned.{Planned}
+use Rattle.item.specs.Writing.{buffersOf, atStart, Room}
+use Rattle.planner.specs.Items.{listedItems}
+use Rattle.planner.specs.Plan.{Outcome, outcome, roomAnswer, answered, planOf}
+use Rattle.planner.specs.Writing.{keptEntry, acceptedOf}
 use Rattle.planner.specs.declared.planning.Planned.the-variants.{Done, Refused}
-use Rattle.item.proofs.Writing.{fold-start}
-use Rattle.planner.proofs.Listing.{order-any}
-use Rattle.planner.proofs.Orders.{bytes-all, floats-all}
+use Rattle.planner.proofs.Lengths.{bytes-all, floats-all}
 
 and-short : (a b : Bool) → b ≡ false → (a && b) ≡ false
 and-short true b e = e
@@ -41,38 +38,27 @@ and-short false b e = refl
 
 -- By an answer
 
-module _ (L : Layer) (t : List ℕ) (order : List Edge) (items : List ℕ) (points : List Float) where
-  outcome-no : {a : Answer} {q : Refusal} {p : ℕ} → a ≡ No q p → outcome (Refused q p) items points ≡ answered a L t order items points
+module _ (L : Layer) (t items : List ℕ) (points : List Float) where
+  outcome-no : {a : Answer} {q : Refusal} {p : ℕ} → a ≡ No q p → outcome (Refused q p) items points ≡ answered a L t items points
   unfolding answered
-  outcome-no e = ap (λ (a : Answer). answered a L t order items points) (sym e)
+  outcome-no e = ap (λ (a : Answer). answered a L t items points) (sym e)
 
-  outcome-yes : {a : Answer} → a ≡ Yes → (b : Buffers) → b ≡ foldl writeItem (buffersOf items points atStart) (itemsOf L t order)
-      → outcome (Done (b .at .items) (b .at .floats)) (b .items) (b .points) ≡ answered a L t order items points
+  outcome-yes : {a : Answer} → a ≡ Yes → {n m : ℕ} → n ≡ length (bytesOf (listedItems L t)) → m ≡ length (floatsOf (listedItems L t))
+      → {items′ : List ℕ} → items′ ≡ sets items 0 (bytesOf (listedItems L t))
+      → {points′ : List Float} → points′ ≡ sets points 0 (floatsOf (listedItems L t))
+      → outcome (Done n m) items′ points′ ≡ answered a L t items points
   unfolding answered
-  outcome-yes e b w =
-      ap (λ (z : Buffers). outcome (Done (z .at .items) (z .at .floats)) (z .items) (z .points))
-      (w ∙ fold-start items points (itemsOf L t order))
-      ∙ ap (λ (a : Answer). answered a L t order items points) (sym e)
+  outcome-yes e n m i p = (λ j. outcome (Done (n j) (m j)) (i j) (p j)) ∙ ap (λ (a : Answer). answered a L t items points) (sym e)
 
   -- questions 1 to 7, then 14
-  plan-yes : firstNo (heldQuestions L t) ≡ Yes
-      → answered (roomAnswer L t order items points) L t order items points ≡ planOf L t order items points
-  plan-yes e =
-      ap (λ (a : Answer). answered a L t order items points)
-      (first-only (roomAnswer L t order items points) ∙ append-yes (heldQuestions L t) (roomAnswer L t order items points ∷ []) e)
+  pub plan-yes : firstNo (heldQuestions L t) ≡ Yes → {o : Outcome} → o ≡ acceptedOf L t items points → o ≡ planOf L t items points
+  plan-yes e is =
+      is
+      ∙ ap (λ (a : Answer). answered a L t items points)
+      (first-only (roomAnswer L t items points) ∙ append-yes (heldQuestions L t) (roomAnswer L t items points ∷ []) e)
 
-  plan-no : {q : Refusal} {p : ℕ} → firstNo (heldQuestions L t) ≡ No q p
-      → outcome (Refused q p) items points ≡ planOf L t order items points
-  plan-no e = outcome-no (sym (append-no (heldQuestions L t) (roomAnswer L t order items points ∷ []) e))
-
--- the code's order is one that is allowed
-module _ {L : Layer} {t items : List ℕ} {points : List Float} where
-  pub promised-accepted : {r : Planned} {items′ : List ℕ} {points′ : List Float} → firstNo (heldQuestions L t) ≡ Yes
-      → outcome r items′ points′ ≡ acceptedOf L t items points → Promised L t items points r items′ points′
-  promised-accepted e is = record { order = listOrder L; any = order-any L; is = is ∙ plan-yes L t (listOrder L) items points e }
-
-  pub promised-refused : {q : Refusal} {p : ℕ} → firstNo (heldQuestions L t) ≡ No q p → Promised L t items points (Refused q p) items points
-  promised-refused e = record { order = listOrder L; any = order-any L; is = plan-no L t (listOrder L) items points e }
+  pub plan-no : {q : Refusal} {p : ℕ} → firstNo (heldQuestions L t) ≡ No q p → outcome (Refused q p) items points ≡ planOf L t items points
+  plan-no e = outcome-no (sym (append-no (heldQuestions L t) (roomAnswer L t items points ∷ []) e))
 
 -- Question 14, by the number of kept vertices and of contours
 
@@ -105,17 +91,17 @@ module _ {L : Layer} {t : List ℕ} {kept many : ℕ} (c : Tallies L t kept many
       )
 
   byte-count : length (bytesOf (listedItems L t)) ≡ kept + many
-  byte-count = omega (arith, bytes-all (c .accepted) (order-any L), c .kept-is, c .many-is)
+  byte-count = omega (arith, bytes-all (c .accepted), c .kept-is, c .many-is)
 
   float-count : length (floatsOf (listedItems L t)) ≡ 2 * kept
-  float-count = omega (arith, floats-all (c .accepted) (order-any L), c .kept-is)
+  float-count = omega (arith, floats-all (c .accepted), c .kept-is)
 
   module _ (items : List ℕ) (points : List Float) where
-    short-items : length items < kept + many → roomAnswer L t (listOrder L) items points ≡ No ShortOutput 0
+    short-items : length items < kept + many → roomAnswer L t items points ≡ No ShortOutput 0
     unfolding roomAnswer
     short-items h = rw (byte-count, lt-leb (kept + many) (length items) h)
 
-    short-points : length points < 2 * kept → roomAnswer L t (listOrder L) items points ≡ No ShortOutput 0
+    short-points : length points < 2 * kept → roomAnswer L t items points ≡ No ShortOutput 0
     unfolding roomAnswer
     short-points h =
         ap (ask ShortOutput)
@@ -123,13 +109,13 @@ module _ {L : Layer} {t : List ℕ} {kept many : ℕ} (c : Tallies L t kept many
         (ap (λ (n : ℕ). leb n (length points)) float-count ∙ lt-leb (2 * kept) (length points) h))
 
     pub refused-items : length items < kept + many → outcome (Refused ShortOutput 0) items points ≡ acceptedOf L t items points
-    refused-items h = outcome-no L t (listOrder L) items points (short-items h)
+    refused-items h = outcome-no L t items points (short-items h)
 
     pub refused-points : length points < 2 * kept → outcome (Refused ShortOutput 0) items points ≡ acceptedOf L t items points
-    refused-points h = outcome-no L t (listOrder L) items points (short-points h)
+    refused-points h = outcome-no L t items points (short-points h)
 
     module _ (i : kept + many ≤ length items) (p : 2 * kept ≤ length points) where
-      room-yes : roomAnswer L t (listOrder L) items points ≡ Yes
+      room-yes : roomAnswer L t items points ≡ Yes
       unfolding roomAnswer
       room-yes = rw (byte-count, float-count, le-leb (kept + many) (length items) i, le-leb (2 * kept) (length points) p)
 
@@ -139,6 +125,7 @@ module _ {L : Layer} {t : List ℕ} {kept many : ℕ} (c : Tallies L t kept many
         floats = omega (arith, float-count);
       }
 
-      pub list-done : {b : Buffers} → b ≡ foldl writeItem (buffersOf items points atStart) (listedItems L t)
-          → outcome (Done (b .at .items) (b .at .floats)) (b .items) (b .points) ≡ acceptedOf L t items points
-      list-done {b} w = outcome-yes L t (listOrder L) items points room-yes b w
+      pub list-done : {items′ : List ℕ} → items′ ≡ sets items 0 (bytesOf (listedItems L t))
+          → {points′ : List Float} → points′ ≡ sets points 0 (floatsOf (listedItems L t))
+          → outcome (Done (kept + many) (2 * kept)) items′ points′ ≡ acceptedOf L t items points
+      list-done = outcome-yes L t items points room-yes (sym byte-count) (sym float-count)

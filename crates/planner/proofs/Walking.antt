@@ -1,19 +1,25 @@
--- One contour walked once: the items that are left to write, and what the outputs hold when the walk is back.
+-- One contour walked once: its kept vertices counted, or its items written, and what the outputs hold when the walk is back.
 use mathlib.Core.Path.{_≡_, refl, sym, ap, subst, _∙_}
 use mathlib.Core.Bool.{Bool, true, false}
 use mathlib.Core.List.{List, [], _∷_, foldl}
-use Prim.Native.Nat.{ℕ, _<_}
+use Prim.Native.Nat.{ℕ, _+_, _≤_, _<_}
+use native.Mathlib.Omega.{arith}
 use lib.ListN.{length}
+use Rattle.arith.specs.Booleans.{asNumber}
+use Rattle.arith.proofs.Lists.{among-most}
 use Rattle.grid.specs.Layer.{Layer}
 use Rattle.grid.specs.declared.edge.Edge.{Edge}
+use Rattle.grid.proofs.Numbers.{edges-small}
 use Rattle.step.specs.Walk.{next}
 use Rattle.contour.specs.Walk.{rest}
-use Rattle.contour.specs.Contours.{walkOf, sameEdge}
+use Rattle.contour.specs.Contours.{walkOf, sameEdge, contourOf}
+use Rattle.contour.proofs.Orbit.{round}
 use Rattle.contour.proofs.Loop.{Due, start, due-one, due-next, shorter, rest-more, rest-last}
 use Rattle.contour.proofs.Sticks.{laws}
 use Rattle.table.specs.Vertices.{keptAt}
 use Rattle.table.specs.Lent.{LentAt}
-use Rattle.drawn.specs.Drawn.{vertex, drawnAmong}
+use Rattle.drawn.specs.Drawn.{vertex, drawnAmong, drawnOf}
+use Rattle.drawn.proofs.DrawnEdges.{drawn-length}
 use Rattle.item.specs.Items.{pointInSamples, itemTo}
 use Rattle.planner.specs.Items.{itemsTo, contourItems}
 use Rattle.item.specs.Writing.{Buffers, writeItem, Room}
@@ -106,3 +112,53 @@ module _ {L : Layer} {t : List ℕ} {f : Edge} (given : LentAt L t f) {b₀ : Bu
         writes-last s =
             let left = after (rest-last (walkOf L) (laws L (given .sound)) f x x′ (g .here) step s) in
             record { whole = λ e. e ∙ left .0; room = left .1 }
+
+-- A walk round the contour of f stands at x with n kept vertices counted: those still to come make all
+pub record PartTallied (L : Layer) (t : List ℕ) (f x : Edge) (n : ℕ) : Type 0 where
+  pub here : Due (walkOf L) f x
+  pub tallied : n + length (drawnAmong L t (rest (walkOf L) x f)) ≡ length (drawnOf L t f)
+
+module _ {L : Layer} {t : List ℕ} {f : Edge} (given : LentAt L t f) where
+  pub tally-start : PartTallied L t f f 0
+  tally-start = record { here = start (walkOf L) (laws L (given .sound)) f (given .stick); tallied = omega arith }
+
+  module _ {x : Edge} {n : ℕ} (g : PartTallied L t f x n) where
+    pub tally-here : LentAt L t x
+    tally-here = record { sound = given .sound; exact = given .exact; stick = due-one (walkOf L) (laws L (given .sound)) f x (g .here) }
+
+    -- no more than the layer has sticks
+    pub tally-few : n ≤ 2095104
+    tally-few =
+        omega (
+          arith,
+          g .tallied,
+          drawn-length L t (contourOf L f),
+          among-most (keptAt L t) (contourOf L f),
+          round (walkOf L) (laws L (given .sound)) f (given .stick) .within,
+          edges-small (L .size) (given .sound .whole .sized),
+        )
+
+    pub tally-less : {x′ : Edge} → x′ ≡ next L x → sameEdge x′ f ≡ false → length (rest (walkOf L) x′ f) < length (rest (walkOf L) x f)
+    tally-less {x′} = shorter (walkOf L) (laws L (given .sound)) f x x′ (g .here)
+
+    module _ {x′ : Edge} (step : x′ ≡ next L x) {n′ : ℕ} (work : n′ ≡ n + asNumber (keptAt L t x)) where
+      -- what is left after x
+      less : {l : List Edge} → rest (walkOf L) x f ≡ x ∷ l → n′ + length (drawnAmong L t l) ≡ length (drawnOf L t f)
+      less {l} left =
+          omega (
+            arith,
+            work,
+            g .tallied,
+            ap (λ (m : List Edge). length (drawnAmong L t m)) left,
+            drawn-length L t (x ∷ l),
+            drawn-length L t l,
+          )
+
+      pub tally-turn : sameEdge x′ f ≡ false → PartTallied L t f x′ n′
+      tally-turn s = record {
+        here = due-next (walkOf L) (laws L (given .sound)) f x x′ (g .here) step;
+        tallied = less (rest-more (walkOf L) (laws L (given .sound)) f x x′ (g .here) step s);
+      }
+
+      pub tally-last : sameEdge x′ f ≡ true → n′ ≡ length (drawnOf L t f)
+      tally-last s = omega (arith, less (rest-last (walkOf L) (laws L (given .sound)) f x x′ (g .here) step s))

@@ -1,28 +1,22 @@
 // The public call: questions 1 to 7 and 14, and the items of all contours.
-use super::walk::write_contour;
+use super::listing::write_list;
 use bitset::EdgeSet;
 use bitset::WORDS;
 use bitset::member_count;
-use contour::first_contour;
-use contour::next_contour;
 use grid::Answer;
 use grid::Refusal;
 use grid::Size;
 use grid::kind_start;
-use item::Written;
 use table::entry_of;
 use table::is_kept;
 ghost use mathlib.Core.Path.{_≡_};
-ghost use mathlib.Core.List.{foldl};
 ghost use lib.ListN.{length};
 ghost use Rattle.arith.specs.Ranges.{count};
 ghost use Rattle.grid.specs.Layer.{layerOf, sizeOf};
 ghost use Rattle.contour.specs.Sets.{FirstSet};
-ghost use Rattle.table.specs.Lent.{Lent};
 ghost use Rattle.held.specs.Questions.{Accepted};
-ghost use Rattle.planner.specs.Plan.{outcome, Promised};
-ghost use Rattle.item.specs.Writing.{buffersOf, atStart, writeItem, Room};
-ghost use Rattle.planner.specs.Writing.{keptEntry, listedItems, acceptedOf};
+ghost use Rattle.planner.specs.Plan.{outcome, planOf};
+ghost use Rattle.planner.specs.Writing.{keptEntry, acceptedOf};
 
 // The call's answer: how many items and floats were written, or refused with the question and its place.
 pub enum Planned {
@@ -45,32 +39,6 @@ fn count_kept(table: &[u16]) -> usize
     kept
 }
 
-// Writes the items of all contours, in the cursor's order, which is ascending by first stick.
-fn write_contours(
-    size: Size,
-    bitmap: &[u8],
-    table: &[u16],
-    set: &EdgeSet,
-    items: &mut [u8],
-    points: &mut [f64],
-) -> Written
-    requires { ⌜ Lent (layerOf size (now bitmap)) (now table) ⌝ }
-    requires { ⌜ FirstSet (layerOf size (now bitmap)) (now set) ⌝ }
-    requires { ⌜ Room (buffersOf (now items) (now points) atStart) (listedItems (layerOf size (now bitmap)) (now table)) ⌝ }
-    ensures { λ r. ⌜ buffersOf (now (items .exit)) (now (points .exit)) r ≡ foldl writeItem (buffersOf (now (items .entry)) (now (points .entry)) atStart) (listedItems (layerOf size (now (bitmap .entry))) (now (table .entry))) ⌝ }
-{
-    let mut written = Written {
-        items: 0,
-        floats: 0,
-    };
-    let mut at = first_contour(size, bitmap, set);
-    while at.more {
-        written = write_contour(size, bitmap, table, items, points, written, at.stick);
-        at = next_contour(size, bitmap, set, at);
-    }
-    written
-}
-
 // Question 14, and the list, of a layer that passed 1 to 7.
 fn plan_accepted(
     size: Size,
@@ -85,16 +53,17 @@ fn plan_accepted(
     ensures { λ r. ⌜ outcome r (now (items .exit)) (now (points .exit)) ≡ acceptedOf (layerOf size (now (bitmap .entry))) (now (table .entry)) (now (items .entry)) (now (points .entry)) ⌝ }
 {
     let kept = count_kept(table);
-    if items.len() < kept + member_count(set, kind_start(size, true)) {
+    let bytes = kept + member_count(set, kind_start(size, true));
+    if items.len() < bytes {
         return Planned::Refused(Refusal::ShortOutput, 0);
     }
     if points.len() < 2 * kept {
         return Planned::Refused(Refusal::ShortOutput, 0);
     }
-    let written = write_contours(size, bitmap, table, set, items, points);
+    write_list(size, bitmap, table, set, items, points);
     Planned::Done {
-        items: written.items,
-        floats: written.floats,
+        items: bytes,
+        floats: 2 * kept,
     }
 }
 
@@ -107,7 +76,7 @@ pub fn plan(
     items: &mut [u8],
     points: &mut [f64],
 ) -> Planned
-    ensures { λ r. ⌜ Promised (layerOf (sizeOf w h) (now (bitmap .entry))) (now (table .entry)) (now (items .entry)) (now (points .entry)) r (now (items .exit)) (now (points .exit)) ⌝ }
+    ensures { λ r. ⌜ outcome r (now (items .exit)) (now (points .exit)) ≡ planOf (layerOf (sizeOf w h) (now (bitmap .entry))) (now (table .entry)) (now (items .entry)) (now (points .entry)) ⌝ }
 {
     let size = Size {
         width: w as usize,

@@ -13,13 +13,14 @@ use table::is_kept;
 use table::offset_in;
 ghost use mathlib.Core.Path.{_≡_};
 ghost use mathlib.Core.List.{foldl};
-ghost use lib.ListN.{getD};
+ghost use lib.ListN.{length, getD};
 ghost use Rattle.grid.specs.Layer.{layerOf};
 ghost use Rattle.grid.specs.Edges.{number};
 ghost use Rattle.chord.specs.Points.{position};
 ghost use Rattle.table.specs.Entries.{entryOf};
 ghost use Rattle.table.specs.Vertices.{offsetIn};
 ghost use Rattle.table.specs.Lent.{LentAt, HasEntry};
+ghost use Rattle.drawn.specs.Drawn.{drawnOf};
 ghost use Rattle.item.specs.Items.{pointInSamples, itemTo};
 ghost use Rattle.planner.specs.Items.{contourItems};
 ghost use Rattle.item.specs.Writing.{buffersOf, writeItem, Room};
@@ -30,6 +31,25 @@ fn item_at(size: Size, table: &[u16], e: Edge, due: bool) -> Item
     ensures { λ r. ⌜ r ≡ itemTo due (pointInSamples (position e (offsetIn (entryOf (getD (now (table .entry)) (number size e) 0))))) ⌝ }
 {
     item_to(due, point_of(e, offset_in(entry_at(size, table, e))))
+}
+
+// How many vertices of the contour that starts at `first` are kept.
+pub fn count_contour(size: Size, bitmap: &[u8], table: &[u16], first: Edge) -> usize
+    requires { ⌜ LentAt (layerOf size (now bitmap)) (now table) first ⌝ }
+    ensures { λ r. ⌜ r ≡ length (drawnOf (layerOf size (now (bitmap .entry))) (now (table .entry)) first) ⌝ }
+{
+    let mut kept: usize = 0;
+    let mut e = first;
+    loop {
+        if is_kept(entry_at(size, table, e)) {
+            kept += 1;
+        }
+        e = next_stick(size, bitmap, e);
+        if same_edge(e, first) {
+            break;
+        }
+    }
+    kept
 }
 
 // Writes the items of the contour that starts at `first`: a move is due until the first kept vertex.

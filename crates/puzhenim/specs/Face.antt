@@ -1,6 +1,5 @@
 -- The exported face of each call: the number that it returns and its buffers at exit, over the call's own definition. `report` Results says
 -- which figures each call has.
-use mathlib.Core.Path.{_≡_}
 use mathlib.Core.Bool.{cond}
 use mathlib.Core.List.{List}
 use Prim.Native.Nat.{ℕ}
@@ -8,7 +7,6 @@ use lib.Dec.{ltb}
 use lib.ListN.{length}
 use Rattle.grid.specs.Layer.{Layer}
 use Rattle.grid.specs.Questions.{numberOf}
-use Rattle.grid.specs.declared.edge.Edge.{Edge}
 use Rattle.grid.specs.declared.question.Refusal.the-variants.{ShortOutput}
 use Rattle.trace.specs.Trace.{traceOf}
 use Rattle.trace.specs.Counts.{countsOf}
@@ -17,7 +15,7 @@ use Rattle.simplify.specs.Call.{simplifyOf}
 use Rattle.roll.specs.Roll.{rollOf}
 use Rattle.sheet.specs.Written.{writeOf}
 use Rattle.reading.specs.Reading.{readOf}
-use Rattle.planner.specs.Plan.{planOf, AnyOrder}
+use Rattle.planner.specs.Plan.{planOf}
 use Rattle.view.specs.View.{sampleOf}
 use Rattle.report.specs.Results.{Result, Outputs, fourFigures, traceResult, countsResult, smoothResult, simplifyResult, rollResult, writeResult, readResult, planResult, sampleResult}
 
@@ -57,15 +55,8 @@ writeFace L t sheet figures = face figures sheet (writeResult (writeOf L t sheet
 abbrev pub readFace : Layer → List ℕ → List ℕ → List ℕ → Face (List ℕ)
 readFace L t sheet figures = face figures t (readResult (readOf L t sheet))
 
--- the planner's list, with the contours in an order
-abbrev pub planFace : Layer → List ℕ → List Edge → Outputs → List ℕ → Face Outputs
-planFace L t order out figures = face figures out (planResult (planOf L t order (out .items) (out .points)))
-
--- "The order of contours in this list is left open": the face at exit is that of some order.
-pub record PlanPromised (L : Layer) (t : List ℕ) (out : Outputs) (figures : List ℕ) (exit : Face Outputs) : Type 0 where
-  pub order : List Edge
-  pub any : AnyOrder L order
-  pub is : exit ≡ planFace L t order out figures
+abbrev pub planFace : Layer → List ℕ → Outputs → List ℕ → Face Outputs
+planFace L t out figures = face figures out (planResult (planOf L t (out .items) (out .points)))
 
 -- one sample of a layer view
 abbrev pub sampleFace : Layer → ℕ → ℕ → List ℕ → Face (Unit {0})

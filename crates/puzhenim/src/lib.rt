@@ -3,7 +3,7 @@
 ghost use mathlib.Core.Path.{_≡_};
 ghost use lib.ListN.{length};
 ghost use Rattle.grid.specs.Layer.{layerOf, sizeOf};
-ghost use Rattle.puzhenim.specs.Face.{traceFace, countsFace, smoothFace, simplifyFace, rollFace, writeFace, readFace, PlanPromised, sampleFace};
+ghost use Rattle.puzhenim.specs.Face.{traceFace, countsFace, smoothFace, simplifyFace, rollFace, writeFace, readFace, planFace, sampleFace};
 
 // The number of question 14, for fewer figures than four.
 const SHORT_OUTPUT: u32 = 14;
@@ -143,7 +143,7 @@ pub extern "C" fn pz_plan(
     points: &mut [f64],
     figures: &mut [u64],
 ) -> u32
-    ensures { λ r. ⌜ PlanPromised (layerOf (sizeOf w h) (now (bitmap .entry))) (now (table .entry)) (record { items = now (items .entry); points = now (points .entry) }) (now (figures .entry)) (record { number = r; buffers = record { items = now (items .exit); points = now (points .exit) }; figures = now (figures .exit) }) ⌝ }
+    ensures { λ r. ⌜ record { number = r; buffers = record { items = now (items .exit); points = now (points .exit) }; figures = now (figures .exit) } ≡ planFace (layerOf (sizeOf w h) (now (bitmap .entry))) (now (table .entry)) (record { items = now (items .entry); points = now (points .entry) }) (now (figures .entry)) ⌝ }
 {
     if figures.len() < 4 {
         return SHORT_OUTPUT;

@@ -1,10 +1,10 @@
--- `plan` meets its contract: the contours stand in the list in the code's order, which is one of those allowed.
+-- `plan` meets its contract: questions 1 to 7, then 14.
 use mathlib.Core.Path.{sym, _∙_}
 use borrow.Author.Needs.{needs}
 use Rattle.grid.specs.Layer.{layerOf, sizeOf}
 use Rattle.bitset.proofs.Sets.{empty-set}
 use Rattle.held.proofs.Asking.{accepted-of}
-use Rattle.planner.proofs.Outcomes.{promised-accepted, promised-refused}
+use Rattle.planner.proofs.Outcomes.{plan-yes, plan-no}
 use Rattle.planner.proofs.planning.plan.Statement.{statement}
 use Rattle.planner.proofs.planning.plan.Tie as tie
 
@@ -25,10 +25,16 @@ returns c =
     let done = c .before .before .before .before in
     let told = done .before .before .before .before in
     let asked = told .before .before in
-    promised-accepted (sym (asked .ask-held-firsts .ensures .0) ∙ told .enum-told .given .1) (done .plan-accepted .ensures)
+    let a = start asked .args in
+    plan-yes (layerOf (sizeOf (a .w) (a .h)) (a .bitmap .now)) (a .table .now) (a .items .now) (a .points .now)
+    (sym (asked .ask-held-firsts .ensures .0) ∙ told .enum-told .given .1) (done .plan-accepted .ensures)
 
 returns-2 : tie.Need-returns-2
-returns-2 c = promised-refused (sym (c .before .before .before .ask-held-firsts .ensures .0) ∙ c .before .answer .given .1)
+returns-2 c =
+    let asked = c .before .before .before in
+    let a = start asked .args in
+    plan-no (layerOf (sizeOf (a .w) (a .h)) (a .bitmap .now)) (a .table .now) (a .items .now) (a .points .now)
+    (sym (asked .ask-held-firsts .ensures .0) ∙ c .before .answer .given .1)
 
 pub plan-spec : {M : Type 1} → statement M
 plan-spec =

@@ -22,8 +22,8 @@ counts : (c : tie.After-member-count)
 counts c =
     let given = start (c .before) .pre in tallied (given .0) (given .1) (c .before .before .count-kept .ensures) (c .member-count .ensures)
 
-add-if1 : tie.Need-add-if1
-add-if1 c = omega (arith, tallies-fit (counts c))
+add-bytes : tie.Need-add-bytes
+add-bytes c = omega (arith, tallies-fit (counts c))
 
 returns : tie.Need-returns
 returns c = let a = start (c .before .before) .args in refused-items (counts (c .before)) (a .items .now) (a .points .now) (c .if1 .taken)
@@ -34,14 +34,15 @@ returns-2 c =
     let a = start (counted .before) .args in
     refused-points (counts counted) (a .items .now) (a .points .now) (c .if2 .taken)
 
-write-contours-requires : tie.Need-write-contours-requires
-write-contours-requires c κs =
+write-list-requires : tie.Need-write-list-requires
+write-list-requires c κs =
     let wide = c .before .before in
     let counted = wide .before .before in
     let given = start (counted .before) .pre in
-    let a = start (counted .before) .args in
-    let room = list-fits (counts counted) (a .items .now) (a .points .now) (wide .before .if1 .left) (wide .if2 .left) in
-    (record { sound = given .0 .sound; exact = given .0 .exact }, (given .1, room))
+    let a = start (counted .before) .args in (
+      given .0,
+      (given .1, list-fits (counts counted) (a .items .now) (a .points .now) (wide .before .if1 .left) (wide .if2 .left)),
+    )
 
 returns-3 : tie.Need-returns-3
 returns-3 c =
@@ -49,10 +50,11 @@ returns-3 c =
     let wide = done .before .before .before in
     let counted = wide .before .before in
     let a = start (counted .before) .args in
-    list-done (counts counted) (a .items .now) (a .points .now) (wide .before .if1 .left) (wide .if2 .left) (done .write-contours .ensures)
+    let wrote = done .write-list .ensures in
+    list-done (counts counted) (a .items .now) (a .points .now) (wide .before .if1 .left) (wide .if2 .left) (wrote .0) (wrote .1)
 
 pub plan-accepted-spec : {M : Type 1} → statement M
 plan-accepted-spec =
     tie.close
-    (tie.spec (λ c κs. search needs) (λ c κs. search needs) member-count-requires add-if1 returns (λ c. search needs) returns-2
-    write-contours-requires (λ c. search needs) (λ c. search needs) returns-3)
+    (tie.spec (λ c κs. search needs) (λ c κs. search needs) member-count-requires add-bytes returns (λ c. search needs) returns-2
+    write-list-requires (λ c. search needs) (λ c. search needs) (λ c. search needs) returns-3)
