@@ -47,7 +47,7 @@ typedef struct {
 static const Call COUNTS = {"pz_counts", counts, 132 * 1024}, TRACE = {"pz_trace", trace, 1024}, SMOOTH = {"pz_smooth", smooth, 132 * 1024},
                   SIMPLIFY = {"pz_simplify", simplify, 258 * 1024}, ROLL = {"pz_roll", edit, 132 * 1024},
                   WRITE = {"pz_write_sheet", write_sheet, 132 * 1024}, READ = {"pz_read_sheet", read_sheet, 132 * 1024},
-                  PLAN = {"pz_plan", plan, 132 * 1024}, SAMPLE = {"pz_sample", sample, 1024};
+                  PLAN = {"pz_plan", plan, 265 * 1024}, SAMPLE = {"pz_sample", sample, 1024};
 
 static const char *layer;
 static int shows;

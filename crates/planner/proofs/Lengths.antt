@@ -88,18 +88,18 @@ module _ (L : Layer) (t : List ℕ) where
   drawn-total : length (drawnEdges L t) ≡ total (λ f. length (drawnOf L t f)) (firstSticks L)
   drawn-total = parts-total (drawnOf L t) (firstSticks L)
 
-  pub bytes-length : length (bytesOf (listedItems L t)) ≡ length (drawnEdges L t) + contourCount L
-  bytes-length =
+  bytes-length : Sound L → length (bytesOf (listedItems L t)) ≡ length (drawnEdges L t) + contourCount L
+  bytes-length sound =
       ap length (bytes-parts (listOrder L))
       ∙ parts-total (contourBytes L t) (listOrder L)
-      ∙ order-total L (λ f. length (contourBytes L t f))
+      ∙ order-total sound (λ f. length (contourBytes L t f))
       ∙ omega (arith, totals (firstSticks L), drawn-total, length-map (firstSticks L) (contourOf L))
 
-  pub floats-length : length (floatsOf (listedItems L t)) ≡ 2 * length (drawnEdges L t)
-  floats-length =
+  floats-length : Sound L → length (floatsOf (listedItems L t)) ≡ 2 * length (drawnEdges L t)
+  floats-length sound =
       ap length (floats-parts (listOrder L))
       ∙ parts-total (contourFloats L t) (listOrder L)
-      ∙ order-total L (λ f. length (contourFloats L t f))
+      ∙ order-total sound (λ f. length (contourFloats L t f))
       ∙ omega (arith, totals (firstSticks L), drawn-total)
 
   -- by the depths that the code counts
@@ -115,10 +115,10 @@ module _ {L : Layer} {t : List ℕ} (accepted : Accepted L t) where
   kept-all = drawn-many L t (accepted .sound) (accepted .entries) ∙ ap (count (keptEntry t)) (sym (accepted .exact))
 
   pub bytes-all : length (bytesOf (listedItems L t)) ≡ count (keptEntry t) (length t) + contourCount L
-  bytes-all = omega (arith, bytes-length L t, kept-all)
+  bytes-all = omega (arith, bytes-length L t (accepted .sound), kept-all)
 
   pub floats-all : length (floatsOf (listedItems L t)) ≡ 2 * count (keptEntry t) (length t)
-  floats-all = omega (arith, floats-length L t, kept-all)
+  floats-all = omega (arith, floats-length L t (accepted .sound), kept-all)
 
   -- so no output is longer than a layer allows
   pub bytes-most : length (bytesOf (listedItems L t)) ≤ most

@@ -39,13 +39,13 @@ pub fn count_contour(size: Size, bitmap: &[u8], table: &[u16], first: Edge) -> u
     ensures { λ r. ⌜ r ≡ length (drawnOf (layerOf size (now (bitmap .entry))) (now (table .entry)) first) ⌝ }
 {
     let mut kept: usize = 0;
-    let mut e = first;
+    let mut stick = first;
     loop {
-        if is_kept(entry_at(size, table, e)) {
+        if is_kept(entry_at(size, table, stick)) {
             kept += 1;
         }
-        e = next_stick(size, bitmap, e);
-        if same_edge(e, first) {
+        stick = next_stick(size, bitmap, stick);
+        if same_edge(stick, first) {
             break;
         }
     }

@@ -18,22 +18,22 @@ use Rattle.planner.proofs.walk.count_contour.Statement.{statement}
 use Rattle.planner.proofs.walk.count_contour.Tie as tie
 
 abbrev Inv-loop : tie.InvT-loop
-Inv-loop size bitmap table first kept₀ e₀ kept e = PartTallied (layerOf size bitmap) table first e kept
+Inv-loop size bitmap table first kept₀ stick₀ kept stick = PartTallied (layerOf size bitmap) table first stick kept
 
 abbrev μ-loop : tie.MeasureT-loop
-μ-loop size bitmap table first kept₀ e₀ kept e = length (rest (walkOf (layerOf size bitmap)) e first)
+μ-loop size bitmap table first kept₀ stick₀ kept stick = length (rest (walkOf (layerOf size bitmap)) stick first)
 
 abbrev start : tie.At-loop Inv-loop μ-loop → tie.Start Inv-loop μ-loop
 start c = c .before .before .before
 
 here : (c : tie.At-loop Inv-loop μ-loop)
-    → let a = start c .args in LentAt (layerOf (a .size) (a .bitmap .now)) (a .table .now) (c .loop .e)
+    → let a = start c .args in LentAt (layerOf (a .size) (a .bitmap .now)) (a .table .now) (c .loop .stick)
 here c = tally-here (start c .pre) (c .loop .inv)
 
 worked : (c : tie.Joined1 Inv-loop μ-loop)
     → let at-loop = c .before .before .before in
     let a = start at-loop .args in
-    c .if1 .kept ≡ at-loop .loop .kept + asNumber (keptAt (layerOf (a .size) (a .bitmap .now)) (a .table .now) (at-loop .loop .e))
+    c .if1 .kept ≡ at-loop .loop .kept + asNumber (keptAt (layerOf (a .size) (a .bitmap .now)) (a .table .now) (at-loop .loop .stick))
 unfolding keptAt
 worked c =
     let kept = sym (c .before .is-kept .ensures ∙ ap isKept (c .before .before .entry-at .ensures)) in
