@@ -7,7 +7,6 @@ use native.Mathlib.Omega.{arith}
 use lib.Dec.{leb}
 use lib.ListN.{length}
 use Rattle.arith.specs.Booleans.{asNumber}
-use Rattle.arith.proofs.Booleans.{one-le}
 use Rattle.arith.proofs.Lists.{among-most}
 use Rattle.arith.specs.Lists.{each, among}
 use Rattle.grid.specs.Layer.{Layer}

@@ -1,14 +1,10 @@
 -- From the number of contours around the west end of a first stick to its depth, and where the sweep to it may begin.
-use mathlib.Core.Path.{_≡_, refl, ap, sym, _∙_, subst}
-use mathlib.Core.Bool.{true, false, not, true≢false}
+use mathlib.Core.Path.{_≡_, ap, sym, _∙_, subst}
+use mathlib.Core.Bool.{true}
 use mathlib.Core.List.{List}
-use Prim.Native.Nat.{ℕ, _+_, _≤_, _<_}
+use Prim.Native.Nat.{ℕ, _≤_, _<_}
 use native.Mathlib.Omega.{arith}
 use Rattle.grid.specs.Layer.{Layer}
-use Rattle.grid.specs.Edges.{isStick}
-use Rattle.grid.specs.Questions.{Sound}
-use Rattle.grid.specs.declared.edge.Edge.{Edge}
-use Rattle.grid.proofs.Numbers.{WithinGrid}
 use Rattle.step.proofs.Walks.{stick-sample}
 use Rattle.contour.specs.Walk.{first}
 use Rattle.contour.specs.Contours.{walkOf}

@@ -2,8 +2,8 @@
 use mathlib.Core.Path.{_≡_, refl, ap, sym, _∙_, subst}
 use mathlib.Core.Logic.{_≢_}
 use mathlib.Core.Bool.{Bool, true, false, true≢false, cond, not, _&&_}
-use mathlib.Core.List.{List, [], _∷_, foldl}
-use Prim.Native.Nat.{ℕ, _+_, _-_, _*_, _≤_, _<_}
+use mathlib.Core.List.{List, [], foldl}
+use Prim.Native.Nat.{ℕ, _+_, _-_, _≤_, _<_}
 use native.Mathlib.Omega.{arith}
 use borrow.Author.Tests.{ne-eqb}
 use lib.Dec.{eqb}
@@ -27,7 +27,7 @@ use Rattle.contour.proofs.Sticks.{laws, same-self}
 use Rattle.contour.proofs.Marking.{bits-ok, bits-kept, bits-set}
 use Rattle.contour.proofs.Scans.{Kept, marks, horizontal-number}
 use Rattle.winding.specs.Turns.{east, isBore, isOn, firstOf, onBore}
-use Rattle.winding.proofs.Contours.{on-is, off, not-on, on-only, on-firstOf, firstOf-first}
+use Rattle.winding.proofs.Contours.{on-is, off, on-only, on-firstOf, firstOf-first}
 use Rattle.winding.proofs.Firsts.{firsts-once}
 use Rattle.nesting.specs.Bores.{markBore, BoreSet}
 

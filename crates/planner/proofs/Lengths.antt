@@ -1,8 +1,6 @@
--- How much there is to write. Of a contour an item for each drawn edge and one more, and two floats for each drawn edge; of the list what its
--- contours write, one after the other, and so as much as in any other order.
+-- How much there is to write: what the contours write, one after the other, in the order of the list, and so as much as in any other order.
 use mathlib.Core.Path.{_≡_, refl, sym, ap, _∙_}
-use mathlib.Core.Bool.{Bool, true, false}
-use mathlib.Core.List.{List, [], _∷_, _++_, map, flatten, append-assoc, map-append}
+use mathlib.Core.List.{List, [], _∷_, _++_, flatten, append-assoc, map-append}
 use Prim.Native.Nat.{ℕ, _+_, _*_, _≤_}
 use native.Mathlib.Omega.{arith}
 use lib.ListN.{length, length-map}
@@ -20,42 +18,18 @@ use Rattle.contour.specs.Walk.{first}
 use Rattle.contour.specs.Contours.{walkOf, contourOf, firstSticks, contourCount}
 use Rattle.contour.proofs.Theorems.{contour-count}
 use Rattle.winding.specs.Turns.{depth}
-use Rattle.drawn.specs.Drawn.{Ends, drawnOf, drawnEdges}
+use Rattle.drawn.specs.Drawn.{drawnOf, drawnEdges}
 use Rattle.drawn.proofs.DrawnEdges.{drawn-many}
 use Rattle.held.specs.Questions.{Accepted}
 use Rattle.item.specs.Items.{byteOf, bytesOf, floatsIn, floatsOf}
 use Rattle.item.specs.declared.item.Item.{Item}
-use Rattle.planner.specs.Items.{itemsTo, itemsOf, contourItems, listOrder, listedItems}
-use Rattle.planner.specs.Writing.{depths, most, keptEntry, contourBytes, contourFloats}
+use Rattle.polyline.specs.Items.{contourItems, contourBytes, contourFloats}
+use Rattle.planner.specs.Items.{itemsOf, listOrder, listedItems}
+use Rattle.planner.specs.Writing.{depths, most, keptEntry}
+use Rattle.polyline.proofs.Lengths.{contour-bytes, contour-floats}
 use Rattle.planner.proofs.Order.{order-total, order-depths}
 
--- One contour
-
 module _ (L : Layer) (t : List ℕ) where
-  items-many : (due : Bool) (l : List Ends) → length (itemsTo L t due l) ≡ length l + 1
-  items-many due [] = refl
-  items-many due (d ∷ l) = omega (arith, items-many false l)
-
-  floats-many : (due : Bool) (l : List Ends) → length (floatsOf (itemsTo L t due l)) ≡ 2 * length l
-  unfolding flatten
-  floats-many due [] = refl
-  floats-many true (d ∷ l) = omega (arith, floats-many false l)
-  floats-many false (d ∷ l) = omega (arith, floats-many false l)
-
-  pub contour-bytes : (f : Edge) → length (contourBytes L t f) ≡ length (drawnOf L t f) + 1
-  contour-bytes f = length-map (contourItems L t f) byteOf ∙ items-many true (drawnOf L t f)
-
-  pub contour-floats : (f : Edge) → length (contourFloats L t f) ≡ 2 * length (drawnOf L t f)
-  contour-floats f = floats-many true (drawnOf L t f)
-
-  -- by the number of its kept vertices
-  module _ (f : Edge) {n : ℕ} (tallied : n ≡ length (drawnOf L t f)) where
-    pub tallied-bytes : n + 1 ≡ length (contourBytes L t f)
-    tallied-bytes = omega (arith, tallied, contour-bytes f)
-
-    pub tallied-floats : 2 * n ≡ length (contourFloats L t f)
-    tallied-floats = omega (arith, tallied, contour-floats f)
-
   -- Several, one after the other
 
   floats-join : (l m : List Item) → floatsOf (l ++ m) ≡ floatsOf l ++ floatsOf m
@@ -83,7 +57,7 @@ module _ (L : Layer) (t : List ℕ) where
   totals [] = (refl, refl)
   totals (f ∷ l) =
       let later = totals l in
-      (omega (arith, later, contour-bytes f), omega (arith, later, contour-floats f))
+      (omega (arith, later, contour-bytes L t f), omega (arith, later, contour-floats L t f))
 
   drawn-total : length (drawnEdges L t) ≡ total (λ f. length (drawnOf L t f)) (firstSticks L)
   drawn-total = parts-total (drawnOf L t) (firstSticks L)

@@ -1,6 +1,5 @@
--- Lemmas of the planner's list: one contour, the order of the contours, how much there is to write, the contours at their depths' places, and
+-- Lemmas of the planner's list: the order of the contours, how much there is to write, the contours at their depths' places, and
 -- the outcome.
-pub mod Walking
 pub mod Order
 pub mod Lengths
 pub mod Laying

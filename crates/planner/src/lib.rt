@@ -2,7 +2,6 @@
 mod listing;
 mod places;
 mod planning;
-mod walk;
 
 pub use planning::Planned;
 pub use planning::plan;

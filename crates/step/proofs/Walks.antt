@@ -1,11 +1,10 @@
 -- Successor and predecessor on a layer that passes questions 1 to 4: both lead from stick to stick within the grid, each undoes the other,
 -- and successive sticks are two different sides of one cell, which the walk enters by the first and leaves by the second.
 use mathlib.Core.Path.{_≡_, refl, ap, sym, subst, _∙_}
-use mathlib.Core.Bool.{Bool, true, false, true≢false, false≢true, cond, not, xor, _&&_, Bool·beq}
+use mathlib.Core.Bool.{Bool, true, false, false≢true, cond, not, xor, _&&_, Bool·beq}
 use Prim.Native.Nat.{ℕ, _+_, _-_, _≤_, _<_}
 use native.Mathlib.Decide.{ℕ-discrete}
 use native.Mathlib.Omega.{arith}
-use lib.Dec.{T}
 use Rattle.arith.proofs.Booleans.{and-split, beq-yes, beq-no}
 use Rattle.grid.specs.Layer.{Layer, sample}
 use Rattle.grid.specs.Edges.{isStick, inGrid, firstEnd, secondEnd}

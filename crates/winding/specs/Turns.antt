@@ -1,5 +1,6 @@
 -- How often a contour turns around a sample, by its sticks alone: no vertex, so no table, has a say in it. A contour is named by its first
--- stick f, a sample by its column c and row r.
+-- stick f, a sample by its column c and row r. The definitions mean something on a layer that passes questions 1 to 4, for first sticks f
+-- and g and samples of the grid.
 use mathlib.Core.Bool.{Bool, cond, true, false, not, _&&_}
 use mathlib.Core.List.{List, [], _∷_}
 use Prim.Native.Nat.{ℕ, zero, suc, _+_, _-_}
@@ -12,12 +13,12 @@ use Rattle.grid.specs.declared.edge.Edge.{Edge}
 use Rattle.contour.specs.Walk.{occurrences, low}
 use Rattle.contour.specs.Contours.{walkOf, sameEdge, contourOf, firstSticks}
 
--- e is a stick of the contour that starts at f
+-- e is on the contour that starts at f
 unfoldable pub isOn : Layer → Edge → Edge → Bool
 isOn L f e = ltb 0 (occurrences (walkOf L) e (contourOf L f))
 
--- "A contour is walked with inside on its left": a stick whose west end is inside is crossed upward, one whose south end is inside to the
--- west. That counts 1, downward and to the east −1; an edge that is not on the contour counts 0.
+-- "A contour is walked with inside on its left": a stick whose west end is inside is crossed to the north, one whose south end is inside to
+-- the west. That counts 1, to the south and to the east −1; where an edge is not on the contour, 0.
 abbrev pub dir : Layer → Edge → ℤ
 dir L e = cond (firstEnd L e) (pos 1) (negsuc 0)
 
@@ -31,8 +32,8 @@ east c r = record { vertical = false; column = c; row = r }
 abbrev pub north : ℕ → ℕ → Edge
 north c r = record { vertical = true; column = c; row = r }
 
--- the sum over the n horizontal edges of row r from column c on, and over all of them, which is the ray to the right from the sample:
--- how often the contour turns around it, counter-clockwise
+-- the sum over the n horizontal edges of row r from column c on; and over all from there to the row's end, the ray to the right from the
+-- sample: how often the contour turns around it, counter-clockwise
 unfoldable pub turnsAmong : Layer → Edge → ℕ → ℕ → ℕ → ℤ
 turnsAmong L f r c zero = pos 0
 turnsAmong L f r c (suc n) = dirOn L f (east c r) +ℤ turnsAmong L f r (c + 1) n
@@ -44,8 +45,8 @@ turns L f c r = turnsAmong L f r c (L .size .width - 1 - c)
 abbrev pub around : Layer → Edge → ℕ → ℕ → Bool
 around L f c r = ltb 0 (natAbs (turns L f c r))
 
--- "an outline is a contour that winds around the inside ends of its sticks, a bore one that winds around the outside ends": which of the two
--- a contour is, the west end of its first stick tells (proofs/Values.antt)
+-- A contour is a bore if the west end of its first stick is inside, and else an outline. That an outline is "a contour that winds around the
+-- inside ends of its sticks, a bore one that winds around the outside ends" is shown: `inside-value` and `outside-value` (proofs/Values.antt).
 abbrev pub isBore : Layer → Edge → Bool
 isBore L f = firstEnd L f
 
@@ -81,6 +82,7 @@ turnsTogether L c r = turnsOf L (firstSticks L) c r
 unfoldable pub contoursAround : Layer → ℕ → ℕ → ℕ
 contoursAround L c r = among (λ f. around L f c r) (firstSticks L)
 
--- "which is the number of other contours around them": the depth of the contour that starts at g, by the west end of g
+-- "which is the number of other contours around them": the depth of the contour that starts at g, by the west end of g. Any end of any of its
+-- sticks would do: another contour has the same turns around all of them (`ends-same`, proofs/Nesting.antt).
 unfoldable pub depth : Layer → Edge → ℕ
 depth L g = among (λ f. not (sameEdge f g) && around L f (g .column) (g .row)) (firstSticks L)

@@ -1,5 +1,4 @@
 -- `bore_sticks` meets its contract. The invariant: the bits of the sticks on bores that the cursor has passed are set, and no others.
-use native.Mathlib.Omega.{arith}
 use lib.ListN.{length}
 use Rattle.grid.specs.Layer.{layerOf}
 use Rattle.contour.specs.Cursors.{left}

@@ -1,7 +1,6 @@
 -- `around_at` meets its contract. The invariant: the sweep stands at `at` with `count` contours around the sample.
 use Prim.Native.Nat.{_-_}
 use native.Mathlib.Omega.{arith}
-use borrow.Author.Needs.{needs}
 use Rattle.grid.specs.Layer.{layerOf}
 use Rattle.nesting.specs.Sweeps.{Swept}
 use Rattle.nesting.proofs.Sweeping.{row-turn, row-last}

@@ -13,9 +13,9 @@ use Rattle.contour.specs.Contours.{walkOf}
 use Rattle.table.specs.Vertices.{isKept, keptAt}
 use Rattle.table.specs.Lent.{LentAt}
 use Rattle.table.proofs.Lent.{has-entry}
-use Rattle.planner.proofs.Walking.{PartTallied, tally-start, tally-here, tally-few, tally-less, tally-turn, tally-last}
-use Rattle.planner.proofs.walk.count_contour.Statement.{statement}
-use Rattle.planner.proofs.walk.count_contour.Tie as tie
+use Rattle.polyline.proofs.Walking.{PartTallied, tally-start, tally-here, tally-few, tally-less, tally-turn, tally-last}
+use Rattle.polyline.proofs.walk.count_contour.Statement.{statement}
+use Rattle.polyline.proofs.walk.count_contour.Tie as tie
 
 abbrev Inv-loop : tie.InvT-loop
 Inv-loop size bitmap table first kept₀ stick₀ kept stick = PartTallied (layerOf size bitmap) table first stick kept

@@ -6,8 +6,8 @@ use Rattle.chord.specs.Points.{position}
 use Rattle.table.specs.Vertices.{offsetIn}
 use Rattle.drawn.proofs.Runs.{in-grid-near}
 use Rattle.item.specs.Items.{pointInSamples, itemTo}
-use Rattle.planner.proofs.walk.item_at.Statement.{statement}
-use Rattle.planner.proofs.walk.item_at.Tie as tie
+use Rattle.polyline.proofs.walk.item_at.Statement.{statement}
+use Rattle.polyline.proofs.walk.item_at.Tie as tie
 
 point-of-requires : tie.Need-point-of-requires
 point-of-requires c κs =

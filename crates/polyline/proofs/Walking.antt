@@ -21,7 +21,7 @@ use Rattle.table.specs.Lent.{LentAt}
 use Rattle.drawn.specs.Drawn.{vertex, drawnAmong, drawnOf}
 use Rattle.drawn.proofs.DrawnEdges.{drawn-length}
 use Rattle.item.specs.Items.{pointInSamples, itemTo}
-use Rattle.planner.specs.Items.{itemsTo, contourItems}
+use Rattle.polyline.specs.Items.{itemsTo, contourItems}
 use Rattle.item.specs.Writing.{Buffers, writeItem, Room}
 use Rattle.item.specs.declared.item.Item.{Item}
 use Rattle.item.specs.declared.item.Item.the-variants.{Close}

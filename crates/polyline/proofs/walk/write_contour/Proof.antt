@@ -12,12 +12,12 @@ use Rattle.table.specs.Lent.{LentAt}
 use Rattle.table.proofs.Lent.{has-entry}
 use Rattle.drawn.specs.Drawn.{vertex}
 use Rattle.item.specs.Items.{pointInSamples, itemTo}
-use Rattle.planner.specs.Items.{contourItems}
+use Rattle.polyline.specs.Items.{contourItems}
 use Rattle.item.specs.Writing.{buffersOf}
 use Rattle.item.proofs.Writing.{AsLong, fold-long}
-use Rattle.planner.proofs.Walking.{StickWritten, written-kept, written-none, PartWritten, ToClose, writes-start, writes-here, writes-room, writes-less, writes-turn, writes-last}
-use Rattle.planner.proofs.walk.write_contour.Statement.{statement}
-use Rattle.planner.proofs.walk.write_contour.Tie as tie
+use Rattle.polyline.proofs.Walking.{StickWritten, written-kept, written-none, PartWritten, ToClose, writes-start, writes-here, writes-room, writes-less, writes-turn, writes-last}
+use Rattle.polyline.proofs.walk.write_contour.Statement.{statement}
+use Rattle.polyline.proofs.walk.write_contour.Tie as tie
 
 abbrev Inv-loop : tie.InvT-loop
 Inv-loop size bitmap table items₀ points₀ first at₀ due₀ e₀ items points at due e =

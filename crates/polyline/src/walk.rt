@@ -22,7 +22,7 @@ ghost use Rattle.table.specs.Vertices.{offsetIn};
 ghost use Rattle.table.specs.Lent.{LentAt, HasEntry};
 ghost use Rattle.drawn.specs.Drawn.{drawnOf};
 ghost use Rattle.item.specs.Items.{pointInSamples, itemTo};
-ghost use Rattle.planner.specs.Items.{contourItems};
+ghost use Rattle.polyline.specs.Items.{contourItems};
 ghost use Rattle.item.specs.Writing.{buffersOf, writeItem, Room};
 
 // The item that leads to the vertex of a stick.
