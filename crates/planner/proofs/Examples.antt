@@ -1,4 +1,5 @@
--- The planner's list of the paper's single sample as traced, by running the definitions: in samples, and with room enough and too little.
+-- The planner's list of the paper's single sample as traced, by running the definitions: in samples, and with room enough and too little; and
+-- the order where a bore's first stick comes between those of two outlines.
 use mathlib.Core.Path.{_≡_, refl}
 use mathlib.Core.Bool.{false, xor}
 use mathlib.Core.List.{List, [], _∷_, flatten}
@@ -12,7 +13,8 @@ use Rattle.grid.specs.Edges.{number, edgeCount, edgeAt, isStick}
 use Rattle.grid.specs.Questions.{sidesAnswer, lengthAnswer, spareAnswer, borderAnswer}
 use Rattle.step.specs.Walk.{next, prev}
 use Rattle.contour.specs.Walk.{firstsAmong, occurrences}
-use Rattle.winding.specs.Turns.{isOn, turnsAmong, turns, depth}
+use Rattle.contour.specs.Contours.{firstSticks}
+use Rattle.winding.specs.Turns.{isOn, east, turnsAmong, turns, depth}
 use Rattle.table.specs.Entries.{entryOf, entriesAnswer, tableLengthAnswer}
 use Rattle.table.specs.Vertices.{keptAt, removedAt, offsetAt}
 use Rattle.drawn.specs.Neighbours.{removedFrom, keptFrom}
@@ -68,3 +70,17 @@ unfolding sidesAnswer lengthAnswer spareAnswer borderAnswer tableLengthAnswer en
     firstsAmong number edgeCount edgeAt isStick sample bit next prev xor leastFrom keptAt removedAt offsetAt removedFrom keptFrom entryOf
     roomAnswer answered inSamples div ofInt flatten listOrder byLevel atLevel depth turns turnsAmong isOn occurrences
 single-short = refl
+
+-- a ring around (2,2), and the sample (5,3)
+abbrev ring : Layer
+ring = layerOf (sizeOf 7 5) (0 ∷ 0b0001110 ∷ 0b0001010 ∷ 0b0101110 ∷ 0 ∷ [])
+
+-- by first stick the bore is second, by depth it is last
+pub ring-firsts : firstSticks ring ≡ east 0 1 ∷ east 1 2 ∷ east 4 3 ∷ []
+unfolding firstsAmong number edgeCount edgeAt isStick sample bit next prev xor leastFrom
+ring-firsts = refl
+
+pub ring-order : listOrder ring ≡ east 0 1 ∷ east 4 3 ∷ east 1 2 ∷ []
+unfolding listOrder byLevel atLevel depth turns turnsAmong isOn occurrences firstsAmong number edgeCount edgeAt isStick sample bit next prev xor
+    leastFrom flatten
+ring-order = refl

@@ -41,13 +41,13 @@ atInside t k North = cond (k .nw) (t .nw) (t .ne)
 atInside t k West = cond (k .sw) (t .sw) (t .nw)
 
 -- they agree at the ends of a side that is no stick
-abbrev Agree : Bool → ℤ → ℤ → Type 0
-Agree true x y = Unit
-Agree false x y = x ≡ y
+abbrev EqualUnless : Bool → ℤ → ℤ → Type 0
+EqualUnless true x y = Unit
+EqualUnless false x y = x ≡ y
 
-agree : (stick : Bool) {x y : ℤ} → (stick ≡ false → x ≡ y) → Agree stick x y
-agree true h = tt
-agree false h = h refl
+equal-unless : (stick : Bool) {x y : ℤ} → (stick ≡ false → x ≡ y) → EqualUnless stick x y
+equal-unless true h = tt
+equal-unless false h = h refl
 
 -- then they agree at the inside ends of two linked sides
 record Linked (t : AtCorners) (k : Corners) : Type 0 where
@@ -58,8 +58,8 @@ record Linked (t : AtCorners) (k : Corners) : Type 0 where
 
 linked-from : (t : AtCorners) (sw se nw ne : Bool)
     → let k : Corners = record { sw = sw; se = se; nw = nw; ne = ne } in
-    Agree (cut k South) (t .sw) (t .se) → Agree (cut k East) (t .se) (t .ne)
-    → Agree (cut k North) (t .nw) (t .ne) → Agree (cut k West) (t .sw) (t .nw) → Linked t k
+    EqualUnless (cut k South) (t .sw) (t .se) → EqualUnless (cut k East) (t .se) (t .ne)
+    → EqualUnless (cut k North) (t .nw) (t .ne) → EqualUnless (cut k West) (t .sw) (t .nw) → Linked t k
 unfolding xor
 linked-from t true true true true s e n w = omega arithℤ
 linked-from t true true true false s e n w = omega arithℤ
@@ -99,9 +99,9 @@ module _ {L : Layer} (sound : Sound L) (f : Edge) (is-first : first (walkOf L) f
     side-in North = in-grid (L .size) (edgeOn c r North) (omega arith)
     side-in West = in-grid (L .size) (edgeOn c r West) (omega arith)
 
-    side-agrees : (s : Side) → Agree (cut k s) (turnsAtFirst L f (edgeOn c r s)) (turnsAtSecond L f (edgeOn c r s))
+    side-agrees : (s : Side) → EqualUnless (cut k s) (turnsAtFirst L f (edgeOn c r s)) (turnsAtSecond L f (edgeOn c r s))
     side-agrees s =
-        agree (cut k s)
+        equal-unless (cut k s)
         (λ h. jump-off sound f is-first (edgeOn c r s) (side-in s)
         (off-stick sound f is-first (edgeOn c r s) (side-cut sound c r hc hr s ∙ h)))
 

@@ -27,28 +27,28 @@ use Rattle.winding.specs.Turns.{isOn, dirOn, east, north}
 use Rattle.winding.proofs.Contours.{on-stick, off-stick, on-next}
 
 -- the link permutes the sides, so that a sum over the sides is that over the linked ones
-abbrev total : (Side → ℕ) → ℕ
-total n = n South + n East + n North + n West
+abbrev overSides : (Side → ℕ) → ℕ
+overSides n = n South + n East + n North + n West
 
-total-linked : (n : Side → ℕ) (sw se nw ne : Bool)
-    → total (λ s. n (partner (record { sw = sw; se = se; nw = nw; ne = ne }) s)) ≡ total n
+sides-linked : (n : Side → ℕ) (sw se nw ne : Bool)
+    → overSides (λ s. n (partner (record { sw = sw; se = se; nw = nw; ne = ne }) s)) ≡ overSides n
 unfolding xor
-total-linked n true true true true = omega arith
-total-linked n true true true false = omega arith
-total-linked n true true false true = omega arith
-total-linked n true true false false = omega arith
-total-linked n true false true true = omega arith
-total-linked n true false true false = omega arith
-total-linked n true false false true = omega arith
-total-linked n true false false false = omega arith
-total-linked n false true true true = omega arith
-total-linked n false true true false = omega arith
-total-linked n false true false true = omega arith
-total-linked n false true false false = omega arith
-total-linked n false false true true = omega arith
-total-linked n false false true false = omega arith
-total-linked n false false false true = omega arith
-total-linked n false false false false = omega arith
+sides-linked n true true true true = omega arith
+sides-linked n true true true false = omega arith
+sides-linked n true true false true = omega arith
+sides-linked n true true false false = omega arith
+sides-linked n true false true true = omega arith
+sides-linked n true false true false = omega arith
+sides-linked n true false false true = omega arith
+sides-linked n true false false false = omega arith
+sides-linked n false true true true = omega arith
+sides-linked n false true true false = omega arith
+sides-linked n false true false true = omega arith
+sides-linked n false true false false = omega arith
+sides-linked n false false true true = omega arith
+sides-linked n false false true false = omega arith
+sides-linked n false false false true = omega arith
+sides-linked n false false false false = omega arith
 
 -- A side's dir in two parts: on the contour or not, with inside at its first end or not. On the south and the east side the first end is the
 -- left hand of who enters, on the other two the second end is.
@@ -119,8 +119,8 @@ module _ {L : Layer} (sound : Sound L) where
         (λ h. rw (on-linked s h, partner-turns k s h))
         (λ h. rw (h, off-stick sound f is-first (edgeOn c r s) (side-cut c r hc hr s ∙ h)))
 
-    as-often : total entered ≡ total left-by
-    as-often = sym (total-linked entered (k .sw) (k .se) (k .nw) (k .ne)) ∙ omega (arith, linked South, linked East, linked North, linked West)
+    as-often : overSides entered ≡ overSides left-by
+    as-often = sym (sides-linked entered (k .sw) (k .se) (k .nw) (k .ne)) ∙ omega (arith, linked South, linked East, linked North, linked West)
 
     pub cell-flow : dirOn L f (east c r) +ℤ dirOn L f (north (c + 1) r) ≡ dirOn L f (east c (r + 1)) +ℤ dirOn L f (north c r)
     unfolding xor
