@@ -45,8 +45,8 @@
  * 14  Does each output hold the whole answer? (0). Fewer than four figures are 14 for every call, before 1, and nothing is written
  * 15  Is every vertex kept? (lowest entry of a removed one)
  *
- * Stack that a call needs at most, in units of 1024 bytes: pz_plan 265, pz_simplify 258, pz_trace and pz_sample 1, the others 132. This is measured on the
- * archive, not proved. */
+ * Stack that a call needs at most, in units of 1024 bytes: pz_plan 265, pz_simplify 258, pz_trace and pz_sample 1, the others 132. This is
+ * measured on the archive, not proved. */
 #ifndef PUZHENIM_H
 #define PUZHENIM_H
 
