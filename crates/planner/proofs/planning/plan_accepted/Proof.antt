@@ -51,7 +51,7 @@ returns-3 c =
     let counted = wide .before .before in
     let a = start (counted .before) .args in
     let wrote = done .write-list .ensures in
-    list-done (counts counted) (a .items .now) (a .points .now) (wide .before .if1 .left) (wide .if2 .left) (wrote .0) (wrote .1)
+    list-done (counts counted) (a .items .now) (a .points .now) (wide .before .if1 .left) (wide .if2 .left) (wrote .put-bytes) (wrote .put-floats)
 
 pub plan-accepted-spec : {M : Type 1} → statement M
 plan-accepted-spec =
