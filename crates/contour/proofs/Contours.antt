@@ -100,7 +100,7 @@ module _ (w : Walk) (law : Laws w) where
   pub walked-one : (y : A) → 0 < occurrences w y (walked w) → isOne y ≡ true
   walked-one y h = both-sides (isOne y) (λ o. o) (λ o. absurd (omega (arith, count-walked y, ap asNumber o)))
 
-  -- so together they are as long as there are numbers of elements that occurrences
+  -- so together they are as long as there are numbers of elements that count
   pub length-walked : length (walked w) ≡ count (λ k. isOne (at k)) many
   length-walked =
       sym (length-counts w law (walked w) walked-one)

@@ -111,7 +111,7 @@ module _ (w : Walk) (law : Laws w) (carries : w .Element → Bool) where
           from : (k : ℕ) → p + 1 ≤ k → k < many → carries (at k) ≡ true → bit′ k ≡ seen w (p + 1) (at k)
           from k l b c = kept k b c (omega arith) ∙ marked .from k (omega arith) b c ∙ sym (seen-other w law p (at k) f)
 
-    -- p does not occurrences
+    -- p does not count
     pub mark-none : isOne (at p) ≡ false → Marked w carries (p + 1) bit
     mark-none h =
         mark-passed bit (not-first w law (at p) h)

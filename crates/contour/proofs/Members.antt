@@ -1,4 +1,4 @@
--- Which elements stand on a contour, as facts on counts: each at most once, all of them occurrences, being on one contour is an equivalence, and
+-- Which elements stand on a contour, as facts on counts: each at most once, all of them counting, being on one contour is an equivalence, and
 -- the contours of two elements of one orbit are permutations of each other.
 use mathlib.Core.Path.{_≡_, refl, sym, _∙_, ap, subst}
 use mathlib.Core.Logic.{_≢_, inl, inr}
@@ -139,7 +139,7 @@ module _ (w : Walk) (law : Laws w) where
 
   -- Lengths
 
-  -- a list of elements that occurrences is as long as their counts together
+  -- a list of elements that count is as long as their occurrences together
   pub length-counts : (l : List A) → ((y : A) → 0 < occurrences w y l → isOne y ≡ true) → sum (λ k. occurrences w (at k) l) many ≡ length l
   unfolding occurrences
   length-counts [] ones = sum-none (λ k. 0) many (λ k h. refl)
