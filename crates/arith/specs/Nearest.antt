@@ -1,22 +1,29 @@
--- Division of an integer by a natural above 0, rounded down (`floorDiv`) and to the nearest whole number, a half upward (`nearest`, the floor of
--- (2n + d) by 2d), and the two bounds that fix each (`Floor`).
-use Prim.Native.Nat.{ℕ, _*_, _/_, _<_}
-use lib.IntN.{ℤ, pos, negsuc, _+ℤ_, _*ℤ_}
-use lib.Signed.{_≤ℤ_, _<ℤ_}
+-- Division of an integer by a natural above 0, rounded to the nearest whole number. They differ at a half alone: it goes toward a given number
+-- (`nearestTo`, made of `nearest`, which takes it toward zero) or upward (`nearestUp`).
+use mathlib.Core.Path.{_≡_}
+use Prim.Native.Nat.{ℕ, suc, _+_, _*_, _-_, _/_}
+use lib.IntN.{ℤ, pos, negsuc, negℤ, _+ℤ_, _-ℤ_, _*ℤ_}
 
+-- the nearest whole number to n / d, a half toward zero
+unfoldable pub nearest : ℤ → ℕ → ℤ
+nearest (pos a) d = pos ((2 * a + (d - 1)) / (2 * d))
+nearest (negsuc a) d = negℤ (pos ((2 * suc a + (d - 1)) / (2 * d)))
+
+-- the nearest whole number to n / d, a half toward c: the same, counted from c
+unfoldable pub nearestTo : ℤ → ℤ → ℕ → ℤ
+unfolding nearest
+nearestTo c n d = nearest (n -ℤ pos d *ℤ c) d +ℤ c
+
+-- n / d is exactly half way from a whole number to the next
+abbrev pub IsHalf : ℤ → ℕ → Type 0
+IsHalf n d = (k : ℤ) × (pos 2 *ℤ n ≡ pos d *ℤ (pos 2 *ℤ k +ℤ pos 1))
+
+-- n / d rounded down
 unfoldable pub floorDiv : ℤ → ℕ → ℤ
 floorDiv (pos a) m = pos (a / m)
 floorDiv (negsuc a) m = negsuc (a / m)
 
-unfoldable pub nearest : ℤ → ℕ → ℤ
+-- the nearest whole number to n / d, a half upward: n / d and a half, rounded down
+unfoldable pub nearestUp : ℤ → ℕ → ℤ
 unfolding floorDiv
-nearest n d = floorDiv (pos 2 *ℤ n +ℤ pos d) (2 * d)
-
--- z is t / m, rounded down
-pub record Floor (t : ℤ) (m : ℕ) (z : ℤ) : Type 0 where
-  pub low : (pos m *ℤ z) ≤ℤ t
-  pub high : t <ℤ (pos m *ℤ (z +ℤ pos 1))
-
--- z is n / d, rounded to the nearest, a half upward
-abbrev pub IsNearest : ℤ → ℕ → ℤ → Type 0
-IsNearest n d z = Floor (pos 2 *ℤ n +ℤ pos d) (2 * d) z
+nearestUp n d = floorDiv (pos 2 *ℤ n +ℤ pos d) (2 * d)

@@ -1,54 +1,45 @@
--- The steps of the code's signed arithmetic, on integers: the machine's quotient, which rounds toward zero, and a quotient rounded down or to
--- the nearest; a fraction with a denominator above 0; casts. What fits a machine integer is read off by `Rattle.arith.proofs.Bounds`.
+-- The steps of the code's signed arithmetic, on integers: the machine's quotient, which is cut off toward zero, and one rounded to the nearest; a fraction with a denominator above 0; casts. What fits a machine integer is read off by `Rattle.arith.proofs.Bounds`.
 use mathlib.Core.Path.{_≡_, refl, sym, ap, ap₂, subst, _∙_}
 use mathlib.Core.Bool.{Bool, true, false, true≢false, false≢true}
-use Prim.Native.Nat.{ℕ, _+_, _*_, _/_, _≤_, _<_}
+use Prim.Native.Nat.{ℕ, zero, suc, _+_, _*_, _-_, _/_, _≤_, _<_}
 use native.Mathlib.Nat.{add-div-right, div-le-self, mul-le-mul}
 use native.Mathlib.Omega.{arith}
 use lib.Dec.{T}
-use lib.IntN.{ℤ, pos, negsuc, natAbs, _+ℤ_, _-ℤ_, _*ℤ_}
+use lib.IntN.{ℤ, pos, negsuc, negℤ, natAbs, _+ℤ_, _-ℤ_, _*ℤ_}
 use lib.Signed.{quotZ, nonNeg, leZ, ltZ, _<ℤ_}
 use mir.Syntax.{Width, w8}
 use mir.Val.{Fits, ofZ}
 use Rattle.arith.proofs.Integers.{ints, at, viaℕ, arithℤ, leZ-false, ltZ-true}
-use Rattle.arith.specs.Nearest.{floorDiv, nearest}
+use Rattle.arith.specs.Nearest.{nearest}
 use Rattle.arith.proofs.Bounds.{Bounded, ok, pure, exact, natAbs-neg}
-use Rattle.offset.specs.Offset.{rounded, signedBy}
+use Rattle.offset.specs.Offset.{unrounded, rounded, signedBy}
 
 -- a number above 0 is no zero divisor
 pub above-bits : (w : Width) (m : ℤ) → pos 0 <ℤ m → 0 < ofZ w m
 above-bits w (pos n) h = omega arithℤ
 above-bits w (negsuc n) h = absurd (h .lt)
 
--- a quotient that is not below 0 is rounded down by the machine
-pub floor-up : (t m : ℤ) → pos 0 <ℤ m → leZ (pos 0) t ≡ true → quotZ t m ≡ floorDiv t (natAbs m)
-unfolding floorDiv
-floor-up (pos a) (pos b) h e = refl
-floor-up (negsuc a) (pos b) h e = absurd (false≢true e)
-floor-up t (negsuc b) h e = absurd (h .lt)
+-- the nearest number to n / d is what the machine makes of (2·n + d - 1) / (2·d), with the sign of n before d - 1
+widened-up : (a d : ℕ) → 0 < d → pos 2 *ℤ pos a +ℤ (pos d -ℤ pos 1) ≡ pos (2 * a + (d - 1))
+widened-up a d h = viaℕ (search ints) (omega arith)
 
--- and one below 0 is -((m - 1 - t) / m)
-past : (a b : ℕ) → 0 < b → pos b -ℤ pos 1 -ℤ negsuc a ≡ pos (a + b)
-past a b h = viaℕ (search ints) (omega arith)
+widened-down : (a d : ℕ) → 0 < d → pos 2 *ℤ negsuc a +ℤ negℤ (pos d -ℤ pos 1) ≡ negsuc (2 * a + 1 + (d - 1))
+widened-down a d h = viaℕ (search ints depth 9) (omega arith)
 
-below-zero : (k : ℕ) → pos 0 -ℤ pos (k + 1) ≡ negsuc k
-below-zero k = viaℕ (search ints) (omega arith)
-
-pub floor-down : (t m : ℤ) → pos 0 <ℤ m → leZ (pos 0) t ≡ false → pos 0 -ℤ quotZ (m -ℤ pos 1 -ℤ t) m ≡ floorDiv t (natAbs m)
-unfolding floorDiv
-floor-down (pos a) m h e = absurd (omega (arith, leZ-false (pos 0) (pos a) e))
-floor-down (negsuc a) (pos b) h e =
-    let some : 0 < b = omega arithℤ in
-    ap (λ (x : ℤ). pos 0 -ℤ quotZ x (pos b)) (past a b some)
-    ∙ ap (λ (n : ℕ). pos 0 -ℤ pos n) (add-div-right a some)
-    ∙ below-zero (a / b)
-floor-down (negsuc a) (negsuc b) h e = absurd (h .lt)
+pub nearest-of : {x y : ℤ} (n d : ℤ) → pos 0 <ℤ d → x ≡ pos 2 *ℤ n +ℤ signedBy (d -ℤ pos 1) n → y ≡ pos 2 *ℤ d → quotZ x y ≡ nearest n (natAbs d)
+unfolding nearest
+nearest-of (pos a) (pos d) h ex ey = ap₂ quotZ (ex ∙ widened-up a d (omega arithℤ)) ey
+nearest-of (negsuc a) (pos d) h ex ey =
+    ap₂ quotZ (ex ∙ widened-down a d (omega arithℤ)) ey ∙ ap (λ (t : ℕ). negℤ (pos (t / (2 * d)))) (omega arith)
+nearest-of n (negsuc d) h ex ey = absurd (h .lt)
 
 -- it is no larger than what is divided
-pub floor-size : (t : ℤ) (m : ℕ) → natAbs (floorDiv t m) ≤ natAbs t
-unfolding floorDiv
-floor-size (pos a) m = div-le-self a m
-floor-size (negsuc a) m = omega (arith, div-le-self a m)
+pub nearest-size : (n : ℤ) (d : ℕ) → natAbs (nearest n d) ≤ 2 * natAbs n + d
+unfolding nearest
+nearest-size (pos a) d = omega (arith, div-le-self (2 * a + (d - 1)) (2 * d))
+nearest-size (negsuc a) d =
+    let q = (2 * suc a + (d - 1)) / (2 * d) in
+    rw (natAbs-neg (pos q)) (omega (arith, div-le-self (2 * suc a + (d - 1)) (2 * d)))
 
 -- a result with its size
 pub with-size : {r : ℤ} {B : ℕ} (z : ℤ) → r ≡ z → natAbs z ≤ B → (r ≡ z) × (natAbs r ≤ B)
@@ -61,12 +52,6 @@ test-exact test s t e = sym (ap test (exact s t)) ∙ e
 -- a machine term that is above 0
 pub above-exact : {z : ℤ} (s : Bounded z) → T (ok s) → pos 0 <ℤ pure s → pos 0 <ℤ z
 above-exact s t h = subst (λ (x : ℤ). pos 0 <ℤ x) (sym (exact s t)) h
-
--- the nearest number to n / d is (2·n + d) / (2·d), rounded down
-pub nearest-of : {x y : ℤ} (n d : ℤ) → pos 0 <ℤ d → x ≡ pos 2 *ℤ n +ℤ d → y ≡ pos 2 *ℤ d → floorDiv x (natAbs y) ≡ nearest n (natAbs d)
-unfolding nearest
-nearest-of n (pos d) h ex ey = ap₂ (λ (t : ℤ) (m : ℤ). floorDiv t (natAbs m)) ex ey
-nearest-of n (negsuc d) h ex ey = absurd (h .lt)
 
 mul-pos : (k d : ℕ) → 0 < k → 0 < d → 0 < k * d
 mul-pos k d h l = omega (arith, mul-le-mul h l)
@@ -98,12 +83,16 @@ pub upon-size : (n d : ℤ) → natAbs (signedBy n d) ≡ natAbs n
 upon-size n (pos d) = refl
 upon-size n (negsuc d) = natAbs-neg n
 
--- (5·d·old + 2·n) / (5·d)
-pub rounded-of : {x y : ℤ} (old : ℕ) (n d : ℤ) → pos 0 <ℤ d → x ≡ pos 5 *ℤ d *ℤ pos old +ℤ pos 2 *ℤ n → y ≡ pos 5 *ℤ d
-    → nearest x (natAbs y) ≡ rounded old n (natAbs d)
+-- (5·d·old + 2·n) / (5·d), counted from 128
+from-middle : (old : ℕ) (n : ℤ) (d : ℕ) → unrounded old n d -ℤ pos (5 * d) *ℤ pos 128 ≡ pos 5 *ℤ pos d *ℤ (pos old -ℤ pos 128) +ℤ pos 2 *ℤ n
+from-middle old n d = viaℕ (search (ints, at n) depth 9) (omega arith)
+
+pub rounded-of : {x y z : ℤ} (old : ℕ) (n d : ℤ) → pos 0 <ℤ d → z ≡ nearest x (natAbs y)
+    → x ≡ pos 5 *ℤ d *ℤ (pos old -ℤ pos 128) +ℤ pos 2 *ℤ n → y ≡ pos 5 *ℤ d → z +ℤ pos 128 ≡ rounded old n (natAbs d)
 unfolding rounded
-rounded-of old n (pos d) h ex ey = ap₂ (λ (t : ℤ) (m : ℤ). nearest t (natAbs m)) ex ey
-rounded-of old n (negsuc d) h ex ey = absurd (h .lt)
+rounded-of old n (pos d) h ez ex ey =
+    ap (λ (k : ℤ). k +ℤ pos 128) (ez ∙ ap₂ (λ (t : ℤ) (m : ℤ). nearest t (natAbs m)) (ex ∙ sym (from-middle old n d)) ey)
+rounded-of old n (negsuc d) h ez ex ey = absurd (h .lt)
 
 -- ---- a cast to a byte
 

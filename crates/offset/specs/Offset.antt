@@ -1,22 +1,26 @@
 -- The new offset of one vertex, from its old offset and its two neighbours: "The segment between the neighbours meets the closed stick at v, an
 -- exact fraction in 0 to 256. From signed differences of coordinates, the new offset is old + 2/5 of (v - old), rounded once to the nearest
--- whole number, a half upward." That the v of these definitions is that v is shown in smooth (proofs/Steps.antt).
+-- whole number", and where a half goes Note 2 says. That the v of these definitions is that v is shown in smooth (proofs/Steps.antt).
 use mathlib.Core.Logic.{_⊎_}
 use Prim.Native.Nat.{ℕ, _+_, _*_, _≤_, _<_}
 use lib.IntN.{ℤ, pos, negsuc, negℤ, natAbs, _+ℤ_, _-ℤ_, _*ℤ_}
 use lib.Signed.{_<ℤ_}
 use Rattle.arith.specs.Integers.{positivePart}
-use Rattle.arith.specs.Nearest.{nearest}
+use Rattle.arith.specs.Nearest.{nearestTo}
 use Rattle.grid.specs.declared.edge.Edge.{Edge}
 use Rattle.chord.specs.Points.{Position}
 use Rattle.chord.specs.Crossing.{along, across, base, line}
 use Rattle.chord.specs.Runs.{Near, NearEdge}
 
--- "old + 2/5 of (v - old), rounded once to the nearest whole number, a half upward", where v - old is n / d with a d above 0: one rounding
--- of the one fraction (5·d·old + 2·n) / (5·d). Its laws are in proofs/Rounding.antt.
+-- "old + 2/5 of (v - old)", where v - old is n / d with a d above 0: the one fraction (5·d·old + 2·n) / (5·d), by its numerator
+abbrev pub unrounded : ℕ → ℤ → ℕ → ℤ
+unrounded old n d = pos (5 * d * old) +ℤ pos 2 *ℤ n
+
+-- "rounded once to the nearest whole number", and Note 2: "A half in the smoothing step is now rounded toward 128." Its laws are in
+-- proofs/Rounding.antt.
 unfoldable pub rounded : ℕ → ℤ → ℕ → ℤ
-unfolding nearest
-rounded old n d = nearest (pos (5 * d * old) +ℤ pos 2 *ℤ n) (5 * d)
+unfolding nearestTo
+rounded old n d = nearestTo (pos 128) (unrounded old n d) (5 * d)
 
 -- What the code asks of a division: a numerator and a denominator of these sizes, the denominator above 0
 pub record Divisible (n d : ℤ) (N D : ℕ) : Type 0 where
@@ -39,10 +43,13 @@ abbrev pub signedBy : ℤ → ℤ → ℤ
 signedBy n (pos d) = n
 signedBy n (negsuc d) = negℤ n
 
--- the new offset of the vertex at offset `old` of the stick e, whose neighbours are at p and q
+-- the new offset of the vertex at offset `old` of the stick e, whose neighbours are at p and q, by a rounding
+abbrev pub offsetBy : (ℕ → ℤ → ℕ → ℤ) → Position → Position → Edge → ℕ → ℕ
+offsetBy round p q e old = positivePart (round old (signedBy (shift p q e old) (spread p q e)) (natAbs (spread p q e)))
+
 unfoldable pub newOffset : Position → Position → Edge → ℕ → ℕ
 unfolding rounded
-newOffset p q e old = positivePart (rounded old (signedBy (shift p q e old) (spread p q e)) (natAbs (spread p q e)))
+newOffset = offsetBy rounded
 
 -- What the code asks, and smooth shows of the neighbours of a stick (its proofs/Steps.antt): they lie strictly on different sides of its line,
 abbrev pub Astride : Position → Position → Edge → Type 0

@@ -9,26 +9,17 @@ use grid::Edge;
 ghost use mathlib.Core.Path.{_≡_};
 ghost use Prim.Native.Nat.{_^_, _≤_};
 ghost use lib.IntN.{pos, natAbs};
-ghost use Rattle.arith.specs.Nearest.{floorDiv, nearest};
+ghost use Rattle.arith.specs.Nearest.{nearest};
 ghost use Rattle.chord.specs.Runs.{Near, NearEdge};
 ghost use Rattle.offset.specs.Offset.{rounded, Divisible, spread, shift, signedBy, newOffset, Movable};
 
-// t / m for an m above 0, rounded down.
-fn floor_div(t: i64, m: i64) -> i64
-    requires { ⌜ Divisible t m (2 ^ 44) (2 ^ 44) ⌝ }
-    ensures { λ r. ⌜ r ≡ floorDiv t (natAbs m) ⌝ }
-    ensures { λ r. ⌜ natAbs r ≤ 2 ^ 44 ⌝ }
-{
-    if t >= 0 { t / m } else { 0 - (m - 1 - t) / m }
-}
-
-// n / d for a d above 0, rounded to the nearest whole number, a half upward.
+// n / d for a d above 0, rounded to the nearest whole number, a half toward zero, as is what the division cuts off.
 fn nearest_div(n: i64, d: i64) -> i64
-    requires { ⌜ Divisible n d (2 ^ 42) (2 ^ 42) ⌝ }
+    requires { ⌜ Divisible n d (2 ^ 44) (2 ^ 41) ⌝ }
     ensures { λ r. ⌜ r ≡ nearest n (natAbs d) ⌝ }
-    ensures { λ r. ⌜ natAbs r ≤ 2 ^ 44 ⌝ }
+    ensures { λ r. ⌜ natAbs r ≤ 2 ^ 46 ⌝ }
 {
-    floor_div(2 * n + d, 2 * d)
+    (2 * n + signed_by(d - 1, n)) / (2 * d)
 }
 
 // A coordinate as a signed number.
@@ -75,21 +66,21 @@ fn size_of(d: i64) -> i64
 }
 
 fn signed_by(n: i64, d: i64) -> i64
-    requires { ⌜ natAbs n ≤ 2 ^ 40 ⌝ }
-    requires { ⌜ natAbs d ≤ 524288 ⌝ }
+    requires { ⌜ natAbs n ≤ 2 ^ 42 ⌝ }
+    requires { ⌜ natAbs d ≤ 2 ^ 44 ⌝ }
     ensures { λ r. ⌜ r ≡ signedBy n d ⌝ }
-    ensures { λ r. ⌜ natAbs r ≤ 2 ^ 40 ⌝ }
+    ensures { λ r. ⌜ natAbs r ≤ 2 ^ 42 ⌝ }
 {
     if d < 0 { 0 - n } else { n }
 }
 
-// old + 2/5 of n / d, rounded.
+// old + 2/5 of n / d, rounded, a half toward 128: rounded as counted from 128, a half toward zero.
 fn rounded_of(old: u8, n: i64, d: i64) -> i64
-    requires { ⌜ Divisible n d (2 ^ 40) 524288 ⌝ }
+    requires { ⌜ Divisible n d (2 ^ 42) 524288 ⌝ }
     ensures { λ r. ⌜ r ≡ rounded old n (natAbs d) ⌝ }
-    ensures { λ r. ⌜ natAbs r ≤ 2 ^ 44 ⌝ }
+    ensures { λ r. ⌜ natAbs r ≤ 2 ^ 47 ⌝ }
 {
-    nearest_div(5 * d * old as i64 + 2 * n, 5 * d)
+    nearest_div(5 * d * (old as i64 - 128) + 2 * n, 5 * d) + 128
 }
 
 // The new offset of the vertex at `old` of the stick e, whose neighbours are at p and q.

@@ -1,36 +1,42 @@
 -- `nearest_div` meets its contract.
-use mathlib.Core.Path.{_∙_}
+use mathlib.Core.Path.{refl, ap, ap₂, _∙_}
+use Prim.Native.Nat.{_^_, _≤_}
 use native.Mathlib.Omega.{arith}
-use lib.IntN.{pos, _*ℤ_}
+use borrow.Author.Needs.{needs}
+use lib.IntN.{ℤ, pos, natAbs, _+ℤ_, _-ℤ_, _*ℤ_}
 use mir.Syntax.{w64}
 use mir.Val.{toZ, ofZ}
+use Rattle.arith.specs.Nearest.{nearest}
 use Rattle.arith.proofs.Bounds.{sized, in-range, exact, within}
-use Rattle.offset.proofs.Division.{above-exact, above-times, nearest-of}
+use Rattle.offset.specs.Offset.{signedBy}
+use Rattle.offset.proofs.Division.{above-bits, above-exact, above-times, nearest-of, nearest-size, with-size}
 use Rattle.offset.proofs.offset.nearest_div.Statement.{statement}
 use Rattle.offset.proofs.offset.nearest_div.Tie as tie
 
-floor-div-requires : tie.Need-floor-div-requires
-floor-div-requires c κs =
-    record {
-      n-size = within (search sized depth 9) tt;
-      d-size = within (search sized depth 9) tt;
-      above = above-exact (search sized depth 9) tt (above-times 2 (omega arith) (c .args .d) (c .pre .above));
-    }
+signed-by-requires : tie.Need-signed-by-requires
+signed-by-requires c κs = (within (search sized depth 9) tt, within (search sized depth 9) tt)
+
+add-result : tie.Need-add-result
+add-result c = let s-size = c .signed-by .ensures .1 in in-range (search sized depth 9) tt
+
+div-result : tie.Need-div-result
+div-result c =
+    let given = c .before .pre in
+    let s-size = c .signed-by .ensures .1 in
+    (above-bits w64 (pos 2 *ℤ toZ w64 (ofZ w64 (c .before .args .d))) (above-exact (search sized depth 9) tt (above-times 2 (omega arith) (c .before .args .d) (given .above))), in-range (search sized depth 12) tt)
 
 returns : tie.Need-returns
 returns c =
     let a = c .before .args in
     let given = c .before .pre in
-    let r-size = c .floor-div .ensures .1 in
-    let back = exact {z = toZ w64 (ofZ w64 (c .floor-div .result))} (search sized depth 9) tt in
-    let is =
-    c .floor-div .ensures .0
-    ∙ nearest-of {y = toZ w64 (ofZ w64 (pos 2 *ℤ toZ w64 (ofZ w64 (a .d))))} (a .n) (a .d) (given .above)
-    (exact (search sized depth 9) tt) (exact (search sized depth 9) tt) in
-    (back ∙ is, rw back r-size)
+    let s-size = c .signed-by .ensures .1 in
+    let less = exact {z = toZ w64 (ofZ w64 (toZ w64 (ofZ w64 (a .d)) -ℤ pos 1))} (search sized depth 9) tt in
+    let signed-is = c .signed-by .ensures .0 ∙ ap₂ signedBy less (exact {z = toZ w64 (ofZ w64 (a .n))} (search sized depth 9) tt) in
+    with-size (nearest (a .n) (natAbs (a .d)))
+    (exact (search sized depth 14) tt ∙ nearest-of (a .n) (a .d) (given .above) (ap (λ (s : ℤ). pos 2 *ℤ a .n +ℤ s) signed-is) refl)
+    (omega (arith, nearest-size (a .n) (natAbs (a .d)), given .n-size, given .d-size))
 
 pub nearest-div-spec : {M : Type 1} → statement M
 nearest-div-spec =
     tie.close
-    (tie.spec (λ c. in-range (search sized depth 9) tt) (λ c. in-range (search sized depth 9) tt) (λ c. in-range (search sized depth 9) tt)
-    floor-div-requires returns)
+    (tie.spec (λ c. in-range (search sized depth 9) tt) (λ c. in-range (search sized depth 9) tt) signed-by-requires add-result (λ c. in-range (search sized depth 9) tt) div-result returns)
