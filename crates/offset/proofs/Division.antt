@@ -12,7 +12,7 @@ use mir.Val.{Fits, ofZ}
 use Rattle.arith.proofs.Integers.{ints, at, viaℕ, arithℤ, leZ-false, ltZ-true}
 use Rattle.arith.specs.Nearest.{nearest}
 use Rattle.arith.proofs.Bounds.{Bounded, ok, pure, exact, natAbs-neg}
-use Rattle.offset.specs.Offset.{unrounded, rounded, signedBy}
+use Rattle.offset.specs.Offset.{unrounded, middle, rounded, signedBy}
 
 -- a number above 0 is no zero divisor
 pub above-bits : (w : Width) (m : ℤ) → pos 0 <ℤ m → 0 < ofZ w m
@@ -26,12 +26,17 @@ widened-up a d h = viaℕ (search ints) (omega arith)
 widened-down : (a d : ℕ) → 0 < d → pos 2 *ℤ negsuc a +ℤ negℤ (pos d -ℤ pos 1) ≡ negsuc (2 * a + 1 + (d - 1))
 widened-down a d h = viaℕ (search ints depth 9) (omega arith)
 
-pub nearest-of : {x y : ℤ} (n d : ℤ) → pos 0 <ℤ d → x ≡ pos 2 *ℤ n +ℤ signedBy (d -ℤ pos 1) n → y ≡ pos 2 *ℤ d → quotZ x y ≡ nearest n (natAbs d)
+widened : (n d : ℤ) → pos 0 <ℤ d → quotZ (pos 2 *ℤ n +ℤ signedBy (d -ℤ pos 1) n) (pos 2 *ℤ d) ≡ nearest n (natAbs d)
 unfolding nearest
-nearest-of (pos a) (pos d) h ex ey = ap₂ quotZ (ex ∙ widened-up a d (omega arithℤ)) ey
-nearest-of (negsuc a) (pos d) h ex ey =
-    ap₂ quotZ (ex ∙ widened-down a d (omega arithℤ)) ey ∙ ap (λ (t : ℕ). negℤ (pos (t / (2 * d)))) (omega arith)
-nearest-of n (negsuc d) h ex ey = absurd (h .lt)
+widened (pos a) (pos d) h = ap (λ (t : ℤ). quotZ t (pos 2 *ℤ pos d)) (widened-up a d (omega arithℤ))
+widened (negsuc a) (pos d) h =
+    ap (λ (t : ℤ). quotZ t (pos 2 *ℤ pos d)) (widened-down a d (omega arithℤ)) ∙ ap (λ (t : ℕ). negℤ (pos (t / (2 * d)))) (omega arith)
+widened n (negsuc d) h = absurd (h .lt)
+
+-- s is what `signed_by` gave, of the machine's d - 1 and n
+pub nearest-of : {s m k : ℤ} (n d : ℤ) → pos 0 <ℤ d → s ≡ signedBy m k → m ≡ d -ℤ pos 1 → k ≡ n
+    → quotZ (pos 2 *ℤ n +ℤ s) (pos 2 *ℤ d) ≡ nearest n (natAbs d)
+nearest-of n d h es em ek = ap (λ (t : ℤ). quotZ (pos 2 *ℤ n +ℤ t) (pos 2 *ℤ d)) (es ∙ ap₂ signedBy em ek) ∙ widened n d h
 
 -- it is no larger than what is divided
 pub nearest-size : (n : ℤ) (d : ℕ) → natAbs (nearest n d) ≤ 2 * natAbs n + d
@@ -83,15 +88,15 @@ pub upon-size : (n d : ℤ) → natAbs (signedBy n d) ≡ natAbs n
 upon-size n (pos d) = refl
 upon-size n (negsuc d) = natAbs-neg n
 
--- (5·d·old + 2·n) / (5·d), counted from 128
-from-middle : (old : ℕ) (n : ℤ) (d : ℕ) → unrounded old n d -ℤ pos (5 * d) *ℤ pos 128 ≡ pos 5 *ℤ pos d *ℤ (pos old -ℤ pos 128) +ℤ pos 2 *ℤ n
+-- (5·d·old + 2·n) / (5·d), counted from the middle
+from-middle : (old : ℕ) (n : ℤ) (d : ℕ) → unrounded old n d -ℤ pos (5 * d) *ℤ middle ≡ pos 5 *ℤ pos d *ℤ (pos old -ℤ middle) +ℤ pos 2 *ℤ n
 from-middle old n d = viaℕ (search (ints, at n) depth 9) (omega arith)
 
 pub rounded-of : {x y z : ℤ} (old : ℕ) (n d : ℤ) → pos 0 <ℤ d → z ≡ nearest x (natAbs y)
-    → x ≡ pos 5 *ℤ d *ℤ (pos old -ℤ pos 128) +ℤ pos 2 *ℤ n → y ≡ pos 5 *ℤ d → z +ℤ pos 128 ≡ rounded old n (natAbs d)
+    → x ≡ pos 5 *ℤ d *ℤ (pos old -ℤ middle) +ℤ pos 2 *ℤ n → y ≡ pos 5 *ℤ d → z +ℤ middle ≡ rounded old n (natAbs d)
 unfolding rounded
 rounded-of old n (pos d) h ez ex ey =
-    ap (λ (k : ℤ). k +ℤ pos 128) (ez ∙ ap₂ (λ (t : ℤ) (m : ℤ). nearest t (natAbs m)) (ex ∙ sym (from-middle old n d)) ey)
+    ap (λ (k : ℤ). k +ℤ middle) (ez ∙ ap₂ (λ (t : ℤ) (m : ℤ). nearest t (natAbs m)) (ex ∙ sym (from-middle old n d)) ey)
 rounded-of old n (negsuc d) h ez ex ey = absurd (h .lt)
 
 -- ---- a cast to a byte

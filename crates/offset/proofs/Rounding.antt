@@ -9,15 +9,15 @@ use lib.Signed.{_≤ℤ_, _<ℤ_}
 use Rattle.arith.proofs.Integers.{ints, at, viaℕ, toℕ, arithℤ, add-parts, natAbs-parts, *ℤ-cancel-<}
 use Rattle.arith.specs.Nearest.{IsHalf, nearestUp}
 use Rattle.arith.proofs.Nearest.{IsNearestTo, nearest-is, nearest-mirror, nearest-scaled, half-down, half-up, same-upward}
-use Rattle.offset.specs.Offset.{unrounded, rounded}
+use Rattle.offset.specs.Offset.{unrounded, middle, rounded}
 
 twice-size : (y : ℤ) (m : ℕ) → negℤ (pos m) ≤ℤ (pos 2 *ℤ y) → (pos 2 *ℤ y) ≤ℤ pos m → 2 * natAbs y ≤ m
 twice-size y m l u = omega (arith, natAbs-parts y, toℕ l (search (ints, at y)), toℕ u (search (ints, at y)))
 
 module _ (old : ℕ) (n : ℤ) (d : ℕ) (some : 0 < d) where
-  rounded-near : IsNearestTo (pos 128) (unrounded old n d) (5 * d) (rounded old n d)
+  rounded-near : IsNearestTo middle (unrounded old n d) (5 * d) (rounded old n d)
   unfolding rounded
-  rounded-near = nearest-is (pos 128) (unrounded old n d) (omega arith)
+  rounded-near = nearest-is middle (unrounded old n d) (omega arith)
 
   -- "rounded once to the nearest whole number": it is at most a half away,
   pub rounded-nearest : 2 * natAbs (unrounded old n d -ℤ pos (5 * d) *ℤ rounded old n d) ≤ 5 * d
@@ -29,18 +29,18 @@ module _ (old : ℕ) (n : ℤ) (d : ℕ) (some : 0 < d) where
       (viaℕ (search (ints, at n, at z) depth 9) (omega (arith, toℕ (f .high) (search (ints, at n, at z) depth 9))))
 
   -- "A half in the smoothing step is now rounded toward 128": half way from k to the next, from 128 on it goes to k, and below 128 to the next
-  pub rounded-half-down : (k : ℤ) → pos 2 *ℤ unrounded old n d ≡ pos (5 * d) *ℤ (pos 2 *ℤ k +ℤ pos 1) → pos 128 ≤ℤ k → rounded old n d ≡ k
+  pub rounded-half-down : (k : ℤ) → pos 2 *ℤ unrounded old n d ≡ pos (5 * d) *ℤ (pos 2 *ℤ k +ℤ pos 1) → middle ≤ℤ k → rounded old n d ≡ k
   unfolding rounded
-  rounded-half-down k e h = half-down (pos 128) (unrounded old n d) k (omega arith) e h
+  rounded-half-down k e h = half-down middle (unrounded old n d) k (omega arith) e h
 
-  pub rounded-half-up : (k : ℤ) → pos 2 *ℤ unrounded old n d ≡ pos (5 * d) *ℤ (pos 2 *ℤ k +ℤ pos 1) → k <ℤ pos 128 → rounded old n d ≡ k +ℤ pos 1
+  pub rounded-half-up : (k : ℤ) → pos 2 *ℤ unrounded old n d ≡ pos (5 * d) *ℤ (pos 2 *ℤ k +ℤ pos 1) → k <ℤ middle → rounded old n d ≡ k +ℤ pos 1
   unfolding rounded
-  rounded-half-up k e h = half-up (pos 128) (unrounded old n d) k (omega arith) e h
+  rounded-half-up k e h = half-up middle (unrounded old n d) k (omega arith) e h
 
   -- where there is no half, it is the rounding with a half upward
   pub rounded-upward : (IsHalf (unrounded old n d) (5 * d) → ⊥) → rounded old n d ≡ nearestUp (unrounded old n d) (5 * d)
   unfolding rounded
-  rounded-upward no-half = same-upward (pos 128) (unrounded old n d) (omega arith) no-half
+  rounded-upward no-half = same-upward middle (unrounded old n d) (omega arith) no-half
 
   -- an offset of 1 to 255, and v = m / d of 0 to 256
   pub rounded-inside : (m : ℕ) → pos (old * d) +ℤ n ≡ pos m → m ≤ 256 * d → 1 ≤ old → old ≤ 255
@@ -63,7 +63,7 @@ module _ (old : ℕ) (n : ℤ) (d : ℕ) (some : 0 < d) where
 pub rounded-mirror : (old old′ : ℕ) (n : ℤ) (d : ℕ) → old + old′ ≡ 256 → rounded old n d +ℤ rounded old′ (negℤ n) d ≡ pos 256
 unfolding rounded
 rounded-mirror old old′ n d e =
-    nearest-mirror (pos 128) (unrounded old n d) (unrounded old′ (negℤ n) d) (5 * d)
+    nearest-mirror middle (unrounded old n d) (unrounded old′ (negℤ n) d) (5 * d)
     (viaℕ (search (ints, at n) depth 9) (omega (arith, ap (λ k. 5 * d * k) e)))
 
 -- v - old written n / d and k / c
@@ -75,4 +75,4 @@ unrounded-scaled old n k d c e =
 pub rounded-scaled : (old : ℕ) (n k : ℤ) (d c : ℕ) → 0 < d → 0 < c → n *ℤ pos c ≡ k *ℤ pos d → rounded old n d ≡ rounded old k c
 unfolding rounded
 rounded-scaled old n k d c l h e =
-    nearest-scaled (pos 128) (unrounded old n d) (unrounded old k c) (5 * d) (5 * c) (omega arith) (omega arith) (unrounded-scaled old n k d c e)
+    nearest-scaled middle (unrounded old n d) (unrounded old k c) (5 * d) (5 * c) (omega arith) (omega arith) (unrounded-scaled old n k d c e)

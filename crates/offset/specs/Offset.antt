@@ -1,6 +1,6 @@
 -- The new offset of one vertex, from its old offset and its two neighbours: "The segment between the neighbours meets the closed stick at v, an
 -- exact fraction in 0 to 256. From signed differences of coordinates, the new offset is old + 2/5 of (v - old), rounded once to the nearest
--- whole number", and where a half goes Note 2 says. That the v of these definitions is that v is shown in smooth (proofs/Steps.antt).
+-- whole number", and where a half goes Note 2 says. That shift / spread is this v - old is shown in smooth (proofs/Steps.antt).
 use mathlib.Core.Logic.{_⊎_}
 use Prim.Native.Nat.{ℕ, _+_, _*_, _≤_, _<_}
 use lib.IntN.{ℤ, pos, negsuc, negℤ, natAbs, _+ℤ_, _-ℤ_, _*ℤ_}
@@ -18,18 +18,21 @@ unrounded old n d = pos (5 * d * old) +ℤ pos 2 *ℤ n
 
 -- "rounded once to the nearest whole number", and Note 2: "A half in the smoothing step is now rounded toward 128." Its laws are in
 -- proofs/Rounding.antt.
+abbrev pub middle : ℤ
+middle = pos 128
+
 unfoldable pub rounded : ℕ → ℤ → ℕ → ℤ
 unfolding nearestTo
-rounded old n d = nearestTo (pos 128) (unrounded old n d) (5 * d)
+rounded old n d = nearestTo middle (unrounded old n d) (5 * d)
 
--- What the code asks of a division: a numerator and a denominator of these sizes, the denominator above 0
+-- What the code asks of a division: a numerator and a denominator of at most these sizes, the denominator above 0
 pub record Divisible (n d : ℤ) (N D : ℕ) : Type 0 where
   pub n-size : natAbs n ≤ N
   pub d-size : natAbs d ≤ D
   pub above : pos 0 <ℤ d
 
 -- For a stick e and the positions p and q of its neighbours, with coordinates along the stick's line and across it: q's difference from p
--- across the line, which is not 0 (proofs/Offsets.antt), and v - old multiplied by it
+-- across the line, which is not 0 if they lie on its two sides (proofs/Offsets.antt), and v - old multiplied by it
 abbrev pub spread : Position → Position → Edge → ℤ
 spread p q e = pos (across e q) -ℤ pos (across e p)
 
@@ -38,12 +41,12 @@ shift p q e old =
     (pos (along e p) -ℤ pos (base e) -ℤ pos old) *ℤ spread p q e
     +ℤ (pos (along e q) -ℤ pos (along e p)) *ℤ (pos (line e) -ℤ pos (across e p))
 
--- the numerator of n / d over the size of d: it takes the sign of d
+-- the numerator of n / d over the size of d: -n if d is below 0
 abbrev pub signedBy : ℤ → ℤ → ℤ
 signedBy n (pos d) = n
 signedBy n (negsuc d) = negℤ n
 
--- the new offset of the vertex at offset `old` of the stick e, whose neighbours are at p and q, by a rounding
+-- the new offset of the vertex at offset `old` of the stick e, whose neighbours are at p and q, by a rounding; it is above 0 (proofs/Offsets.antt)
 abbrev pub offsetBy : (ℕ → ℤ → ℕ → ℤ) → Position → Position → Edge → ℕ → ℕ
 offsetBy round p q e old = positivePart (round old (signedBy (shift p q e old) (spread p q e)) (natAbs (spread p q e)))
 

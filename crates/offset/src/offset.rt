@@ -13,6 +13,9 @@ ghost use Rattle.arith.specs.Nearest.{nearest};
 ghost use Rattle.chord.specs.Runs.{Near, NearEdge};
 ghost use Rattle.offset.specs.Offset.{rounded, Divisible, spread, shift, signedBy, newOffset, Movable};
 
+// The offset that halves go to.
+const MIDDLE: i64 = 128;
+
 // n / d for a d above 0, rounded to the nearest whole number, a half toward zero, as is what the division cuts off.
 fn nearest_div(n: i64, d: i64) -> i64
     requires { ⌜ Divisible n d (2 ^ 44) (2 ^ 41) ⌝ }
@@ -74,13 +77,13 @@ fn signed_by(n: i64, d: i64) -> i64
     if d < 0 { 0 - n } else { n }
 }
 
-// old + 2/5 of n / d, rounded, a half toward 128: rounded as counted from 128, a half toward zero.
+// old + 2/5 of n / d, rounded, a half toward the middle: as counted from there, toward zero.
 fn rounded_of(old: u8, n: i64, d: i64) -> i64
     requires { ⌜ Divisible n d (2 ^ 42) 524288 ⌝ }
     ensures { λ r. ⌜ r ≡ rounded old n (natAbs d) ⌝ }
     ensures { λ r. ⌜ natAbs r ≤ 2 ^ 47 ⌝ }
 {
-    nearest_div(5 * d * (old as i64 - 128) + 2 * n, 5 * d) + 128
+    nearest_div(5 * d * (old as i64 - MIDDLE) + 2 * n, 5 * d) + MIDDLE
 }
 
 // The new offset of the vertex at `old` of the stick e, whose neighbours are at p and q.

@@ -56,7 +56,7 @@ pass L t = foldl (passContour L) (record { table = t; total = 0 }) (contoursOf L
 abbrev pub vertexCount : Layer → ℕ
 vertexCount L = stickCount L
 
--- how many vertices a layer of 1,024 × 1,024 has at most, and the largest total of a pass: an offset changes by 254 at most
+-- no layer has more vertices, one of 1,024 × 1,024 having as many edges, and no pass a larger total, as an offset changes by 254 at most
 abbrev pub mostVertices : ℕ
 mostVertices = 2095104
 

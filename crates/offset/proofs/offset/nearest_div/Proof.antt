@@ -31,9 +31,9 @@ returns c =
     let given = c .before .pre in
     let s-size = c .signed-by .ensures .1 in
     let less = exact {z = toZ w64 (ofZ w64 (toZ w64 (ofZ w64 (a .d)) -ℤ pos 1))} (search sized depth 9) tt in
-    let signed-is = c .signed-by .ensures .0 ∙ ap₂ signedBy less (exact {z = toZ w64 (ofZ w64 (a .n))} (search sized depth 9) tt) in
+    let same = exact {z = toZ w64 (ofZ w64 (a .n))} (search sized depth 9) tt in
     with-size (nearest (a .n) (natAbs (a .d)))
-    (exact (search sized depth 14) tt ∙ nearest-of (a .n) (a .d) (given .above) (ap (λ (s : ℤ). pos 2 *ℤ a .n +ℤ s) signed-is) refl)
+    (exact (search sized depth 14) tt ∙ nearest-of (a .n) (a .d) (given .above) (c .signed-by .ensures .0) less same)
     (omega (arith, nearest-size (a .n) (natAbs (a .d)), given .n-size, given .d-size))
 
 pub nearest-div-spec : {M : Type 1} → statement M

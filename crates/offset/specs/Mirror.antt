@@ -1,0 +1,21 @@
+-- Mirror images about the middle of a stick, where offset 128 is, for the law of Note 2: "For one vertex, mirroring the neighbours' segment and
+-- the offset about 128 shall mirror the new offset." The theorems are in proofs/Mirror.antt.
+use mathlib.Core.Path.{_≡_}
+use mathlib.Core.Bool.{cond}
+use Prim.Native.Nat.{ℕ, _+_, _*_, _-_}
+use Rattle.grid.specs.declared.edge.Edge.{Edge}
+use Rattle.chord.specs.Points.{Position}
+use Rattle.chord.specs.Crossing.{along, base, off}
+
+-- the image of a position within the edge's length along it
+abbrev pub mirror : Edge → Position → Position
+mirror e p =
+    cond (e .vertical)
+    (record { x = p .x; y = 2 * base e + 256 - p .y })
+    (record { x = 2 * base e + 256 - p .x; y = p .y })
+
+-- A position beside one edge is an image of a position beside another, of either kind: as far off the edge's line, and along it at offsets that
+-- are together 256. So a vertex of the left-hand block and its image in the right-hand block are compared, each on its own stick.
+pub record Image (e : Edge) (p : Position) (e′ : Edge) (p′ : Position) : Type 0 where
+  pub as-far : off e p ≡ off e′ p′
+  pub about : along e p + along e′ p′ ≡ base e + base e′ + 256
