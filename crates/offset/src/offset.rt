@@ -16,15 +16,6 @@ ghost use Rattle.offset.specs.Offset.{rounded, Divisible, spread, shift,
 // The offset that halves go to.
 const MIDDLE: i64 = 128;
 
-// n / d for a d above 0, rounded to the nearest whole number, a half toward zero, as is what the division cuts off.
-fn nearest_div(n: i64, d: i64) -> i64
-    requires { ⌜ Divisible n d (2 ^ 44) (2 ^ 41) ⌝ }
-    ensures { λ r. ⌜ r ≡ nearest n (natAbs d) ⌝ }
-    ensures { λ r. ⌜ natAbs r ≤ 2 ^ 46 ⌝ }
-{
-    (2 * n + signed_by(d - 1, n)) / (2 * d)
-}
-
 // A coordinate as a signed number.
 fn signed(n: usize) -> i64
     requires { ⌜ n ≤ 262144 ⌝ }
@@ -59,7 +50,7 @@ fn shift_of(p: Position, q: Position, e: Edge, old: u8) -> i64
     ahead * spread_of(p, q, e) + turn * before
 }
 
-// |d|, and n with the sign of d: the fraction n / d with a denominator that is not below 0.
+// |d|, and n or, if d is below 0, -n: the fraction n / d with a denominator that is not below 0.
 fn size_of(d: i64) -> i64
     requires { ⌜ natAbs d ≤ 524288 ⌝ }
     ensures { λ r. ⌜ r ≡ pos (natAbs d) ⌝ }
@@ -75,6 +66,16 @@ fn signed_by(n: i64, d: i64) -> i64
     ensures { λ r. ⌜ natAbs r ≤ 2 ^ 42 ⌝ }
 {
     if d < 0 { 0 - n } else { n }
+}
+
+// n / d for a d above 0, rounded to the nearest whole number, a half toward zero: just less than a half is added to its size, and the division
+// cuts off toward zero.
+fn nearest_div(n: i64, d: i64) -> i64
+    requires { ⌜ Divisible n d (2 ^ 44) (2 ^ 41) ⌝ }
+    ensures { λ r. ⌜ r ≡ nearest n (natAbs d) ⌝ }
+    ensures { λ r. ⌜ natAbs r ≤ 2 ^ 46 ⌝ }
+{
+    (2 * n + signed_by(d - 1, n)) / (2 * d)
 }
 
 // old + 2/5 of n / d, rounded, a half toward the middle: as counted from there, toward zero.
