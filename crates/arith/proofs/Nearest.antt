@@ -1,6 +1,6 @@
 -- The laws of `Rattle.arith.specs.Nearest`: each rounding is fixed by its bounds, and every other law is read off them, but for the mirror
 -- law, which is read off the definition.
-use mathlib.Core.Path.{_≡_, refl, sym, ap, ap₂, subst, _∙_}
+use mathlib.Core.Path.{_≡_, refl, sym, ap}
 use mathlib.Core.Logic.{inl, inr}
 use Prim.Native.Nat.{ℕ, zero, suc, _+_, _*_, _-_, _/_, _≤_, _<_}
 use native.Mathlib.Nat.{mul-div-le, lt-mul-div-succ, div-eq-of-lt, div-zero}
@@ -123,24 +123,29 @@ half-up c n k {d} h e l = sym (nearest-only c n h record {
 cancel : (c : ℕ) {x y : ℤ} → 0 < c → pos c *ℤ x ≡ pos c *ℤ y → x ≡ y
 cancel c h e = ≤ℤ-antisymm (*ℤ-cancel-≤ (pos c) (omega arithℤ) (omega (arithℤ, e))) (*ℤ-cancel-≤ (pos c) (omega arithℤ) (omega (arithℤ, e)))
 
+-- n / d and k / b are one fraction, and twice it is x
+twice-scaled : (n k x : ℤ) (d b : ℕ) → 0 < d → n *ℤ pos b ≡ k *ℤ pos d → pos 2 *ℤ n ≡ pos d *ℤ x → pos 2 *ℤ k ≡ pos b *ℤ x
+twice-scaled n k x d b h e f =
+    let same = toℕ e (search (ints, at n, at k)) in
+    let times-b = toℕ (ap (λ y. pos b *ℤ y) f) (search (ints, at n, at x)) in
+    cancel d h (viaℕ (search (ints, at k, at x)) (omega arith))
+
+pub half-scaled : (n k : ℤ) (d b : ℕ) → 0 < d → n *ℤ pos b ≡ k *ℤ pos d → IsHalf n d → IsHalf k b
+half-scaled n k d b h e (z, f) = (z, twice-scaled n k (pos 2 *ℤ z +ℤ pos 1) d b h e f)
+
 pub nearest-scaled : (c n k : ℤ) (d b : ℕ) → 0 < d → 0 < b → n *ℤ pos b ≡ k *ℤ pos d → nearestTo c n d ≡ nearestTo c k b
 nearest-scaled c n k d b h l e =
     let z : ℤ = nearestTo c n d in
     let f = nearest-is c n h in
     let same = toℕ e (search (ints, at n, at k)) in
+    let low = toℕ (*ℤ-mono (pos b) (omega arithℤ) (f .low)) (search (ints, at n, at z) depth 9) in
+    let high = toℕ (*ℤ-mono (pos b) (omega arithℤ) (f .high)) (search (ints, at n, at z) depth 9) in
     nearest-only c k l record {
-      low = *ℤ-cancel-≤ (pos d) (omega arithℤ)
-          (viaℕ (search (ints, at k, at z) depth 9) (omega (arith, toℕ (*ℤ-mono (pos b) (omega arithℤ) (f .low)) (search (ints, at n, at z) depth 9))));
-      high = *ℤ-cancel-≤ (pos d) (omega arithℤ)
-          (viaℕ (search (ints, at k, at z) depth 9) (omega (arith, toℕ (*ℤ-mono (pos b) (omega arithℤ) (f .high)) (search (ints, at n, at z) depth 9))));
-      raised = λ e′. f .raised (cancel b l (viaℕ (search (ints, at n, at z) depth 9) (omega (arith, toℕ (ap (λ x. pos d *ℤ x) e′) (search (ints, at k, at z) depth 9)))));
-      lowered = λ e′. f .lowered (cancel b l (viaℕ (search (ints, at n, at z) depth 9) (omega (arith, toℕ (ap (λ x. pos d *ℤ x) e′) (search (ints, at k, at z) depth 9)))));
+      low = *ℤ-cancel-≤ (pos d) (omega arithℤ) (viaℕ (search (ints, at k, at z) depth 9) (omega arith));
+      high = *ℤ-cancel-≤ (pos d) (omega arithℤ) (viaℕ (search (ints, at k, at z) depth 9) (omega arith));
+      raised = λ e′. f .raised (twice-scaled k n (pos 2 *ℤ z -ℤ pos 1) b d l (sym e) e′);
+      lowered = λ e′. f .lowered (twice-scaled k n (pos 2 *ℤ z +ℤ pos 1) b d l (sym e) e′);
     }
-
-pub half-scaled : (n k : ℤ) (d b : ℕ) → 0 < d → n *ℤ pos b ≡ k *ℤ pos d → IsHalf n d → IsHalf k b
-half-scaled n k d b h e (z, f) =
-    let same = toℕ e (search (ints, at n, at k)) in
-    (z, cancel d h (viaℕ (search (ints, at k, at z) depth 9) (omega (arith, toℕ (ap (λ x. pos b *ℤ x) f) (search (ints, at n, at z) depth 9)))))
 
 -- ---- with a half upward
 

@@ -1,15 +1,16 @@
--- The steps of the code's signed arithmetic, on integers: the machine's quotient, which is cut off toward zero, and one rounded to the nearest; a fraction with a denominator above 0; casts. What fits a machine integer is read off by `Rattle.arith.proofs.Bounds`.
+-- The steps of the code's signed arithmetic, on integers: the machine's quotient, which is cut off toward zero, and one rounded to the nearest;
+-- a fraction with a denominator above 0; casts. What fits a machine integer is read off by `Rattle.arith.proofs.Bounds`.
 use mathlib.Core.Path.{_≡_, refl, sym, ap, ap₂, subst, _∙_}
-use mathlib.Core.Bool.{Bool, true, false, true≢false, false≢true}
-use Prim.Native.Nat.{ℕ, zero, suc, _+_, _*_, _-_, _/_, _≤_, _<_}
-use native.Mathlib.Nat.{add-div-right, div-le-self, mul-le-mul}
+use mathlib.Core.Bool.{Bool, true, false, true≢false}
+use Prim.Native.Nat.{ℕ, suc, _+_, _*_, _-_, _/_, _≤_, _<_}
+use native.Mathlib.Nat.{div-le-self, mul-le-mul}
 use native.Mathlib.Omega.{arith}
 use lib.Dec.{T}
 use lib.IntN.{ℤ, pos, negsuc, negℤ, natAbs, _+ℤ_, _-ℤ_, _*ℤ_}
-use lib.Signed.{quotZ, nonNeg, leZ, ltZ, _<ℤ_}
+use lib.Signed.{quotZ, nonNeg, ltZ, _<ℤ_}
 use mir.Syntax.{Width, w8}
 use mir.Val.{Fits, ofZ}
-use Rattle.arith.proofs.Integers.{ints, at, viaℕ, arithℤ, leZ-false, ltZ-true}
+use Rattle.arith.proofs.Integers.{ints, at, viaℕ, arithℤ, ltZ-true}
 use Rattle.arith.specs.Nearest.{nearest}
 use Rattle.arith.proofs.Bounds.{Bounded, ok, pure, exact, natAbs-neg}
 use Rattle.offset.specs.Offset.{unrounded, middle, rounded, signedBy}

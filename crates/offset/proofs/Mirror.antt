@@ -3,20 +3,20 @@
 use mathlib.Core.Path.{_≡_, refl, sym, ap, ap₂, _∙_}
 use mathlib.Core.Logic.{inl, inr}
 use mathlib.Core.Bool.{Bool, true, false}
-use Prim.Native.Nat.{ℕ, _+_, _*_, _-_, _≤_, _<_}
+use Prim.Native.Nat.{ℕ, _+_, _*_, _-_, _≤_}
 use native.Mathlib.Nat.{add-comm}
 use native.Mathlib.Omega.{arith}
-use lib.IntN.{ℤ, pos, negℤ, natAbs, _+ℤ_, _-ℤ_, _*ℤ_}
-use Rattle.arith.proofs.Integers.{ints, at, viaℕ, toℕ, arithℤ}
+use lib.IntN.{ℤ, pos, negℤ, natAbs, _+ℤ_, _-ℤ_}
+use Rattle.arith.proofs.Integers.{ints, at, viaℕ, toℕ}
 use Rattle.grid.specs.declared.edge.Edge.{Edge}
 use Rattle.chord.specs.Points.{Position}
-use Rattle.chord.specs.Crossing.{along, across, base, line, off, meeting, total}
+use Rattle.chord.specs.Crossing.{along, across, base, off, meeting, total}
 use Rattle.chord.proofs.EdgePoints.{edge}
 use Rattle.offset.specs.Offset.{rounded, spread, shift, signedBy, newOffset, Around}
 use Rattle.offset.specs.Mirror.{mirror, Image}
 use Rattle.offset.proofs.Rounding.{rounded-mirror}
 use Rattle.offset.proofs.Meeting.{spread-is, shift-is}
-use Rattle.offset.proofs.Offsets.{new-is, new-inside}
+use Rattle.offset.proofs.Offsets.{new-is}
 
 -- v - old over `total`
 abbrev pull : Position → Position → Edge → ℕ → ℤ
@@ -27,8 +27,9 @@ minus b m n e = viaℕ (search (ints, at n)) (omega (arith, toℕ e (search (int
 
 new-from : {p q : Position} {e : Edge} {old : ℕ} → Around p q e old → pos (newOffset p q e old) ≡ rounded old (pull p q e old) (total p q e)
 new-from {p} {q} {e} {old} a =
-    new-is a
-    ∙ ap₂ (rounded old) (minus ((base e + old) * total p q e) (meeting p q e) (signedBy (shift p q e old) (spread p q e)) (shift-is p q e old (a .apart))) (spread-is p q e old (a .apart))
+    let n = signedBy (shift p q e old) (spread p q e) in
+    let n-is = minus ((base e + old) * total p q e) (meeting p q e) n (shift-is p q e old (a .apart)) in
+    new-is a ∙ ap₂ (rounded old) n-is (spread-is p q e old (a .apart))
 
 -- the neighbours may change places: their segment has no direction
 turned : {p q : Position} {e : Edge} {old : ℕ} → Around p q e old → Around q p e old
@@ -56,18 +57,18 @@ pulled-back : (a b α β o o′ u w u′ w′ : ℕ) → u + u′ ≡ a + b + 25
 pulled-back a b α β o o′ u w u′ w′ eu ew eo =
     viaℕ (search ints depth 9) (omega (arith, ap (λ k. α * k) eu, ap (λ k. β * k) ew, ap (λ k. α * k) eo, ap (λ k. β * k) eo))
 
-module _ {p q p′ q′ : Position} {e e′ : Edge} {old old′ : ℕ} (here : Around p q e old) (there : Around p′ q′ e′ old′) (sum : old + old′ ≡ 256) where
-  -- two vertices whose neighbours are images of each other, in the same order
-  pub new-mirror : Image e p e′ p′ → Image e q e′ q′ → newOffset p q e old + newOffset p′ q′ e′ old′ ≡ 256
-  new-mirror i j =
-      let same-total : total p′ q′ e′ ≡ total p q e = omega (arith, i .as-far, j .as-far) in
-      let other-sign : pull p′ q′ e′ old′ ≡ negℤ (pull p q e old) =
-      rw (sym (i .as-far), sym (j .as-far))
-      (pulled-back (base e) (base e′) (off e q) (off e p) old old′ (along e p) (along e q) (along e′ p′) (along e′ q′) (i .about) (j .about) sum) in
-      let both : pos (newOffset p q e old) +ℤ pos (newOffset p′ q′ e′ old′) ≡ pos 256 =
-      ap₂ _+ℤ_ (new-from here) (new-from there ∙ ap₂ (rounded old′) other-sign same-total)
-      ∙ rounded-mirror old old′ (pull p q e old) (total p q e) sum in
-      omega (arith, toℕ both (search ints))
+-- two vertices whose neighbours are images of each other, in the same order
+pub new-mirror : {p q p′ q′ : Position} {e e′ : Edge} {old old′ : ℕ} → Around p q e old → Around p′ q′ e′ old′ → old + old′ ≡ 256
+    → Image e p e′ p′ → Image e q e′ q′ → newOffset p q e old + newOffset p′ q′ e′ old′ ≡ 256
+new-mirror {p} {q} {p′} {q′} {e} {e′} {old} {old′} here there sum i j =
+    let same-total : total p′ q′ e′ ≡ total p q e = omega (arith, i .as-far, j .as-far) in
+    let other-sign : pull p′ q′ e′ old′ ≡ negℤ (pull p q e old) =
+    rw (sym (i .as-far), sym (j .as-far))
+    (pulled-back (base e) (base e′) (off e q) (off e p) old old′ (along e p) (along e q) (along e′ p′) (along e′ q′) (i .about) (j .about) sum) in
+    let both : pos (newOffset p q e old) +ℤ pos (newOffset p′ q′ e′ old′) ≡ pos 256 =
+    ap₂ _+ℤ_ (new-from here) (new-from there ∙ ap₂ (rounded old′) other-sign same-total)
+    ∙ rounded-mirror old old′ (pull p q e old) (total p q e) sum in
+    omega (arith, toℕ both (search ints))
 
 -- and in the opposite one, as a contour of the mirrored layer is walked the other way round
 pub new-mirror-turned : {p q p′ q′ : Position} {e e′ : Edge} {old old′ : ℕ} → Around p q e old → Around p′ q′ e′ old′ → old + old′ ≡ 256

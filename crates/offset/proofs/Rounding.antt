@@ -33,7 +33,8 @@ module _ (old : ℕ) (n : ℤ) (d : ℕ) (some : 0 < d) where
   unfolding rounded
   rounded-half-down k e h = half-down middle (unrounded old n d) k (omega arith) e h
 
-  pub rounded-half-up : (k : ℤ) → pos 2 *ℤ unrounded old n d ≡ pos (5 * d) *ℤ (pos 2 *ℤ k +ℤ pos 1) → k <ℤ middle → rounded old n d ≡ k +ℤ pos 1
+  pub rounded-half-up : (k : ℤ) → pos 2 *ℤ unrounded old n d ≡ pos (5 * d) *ℤ (pos 2 *ℤ k +ℤ pos 1) → k <ℤ middle
+      → rounded old n d ≡ k +ℤ pos 1
   unfolding rounded
   rounded-half-up k e h = half-up middle (unrounded old n d) k (omega arith) e h
 

@@ -2,7 +2,7 @@
 -- the offset about 128 shall mirror the new offset." The theorems are in proofs/Mirror.antt.
 use mathlib.Core.Path.{_≡_}
 use mathlib.Core.Bool.{cond}
-use Prim.Native.Nat.{ℕ, _+_, _*_, _-_}
+use Prim.Native.Nat.{_+_, _*_, _-_}
 use Rattle.grid.specs.declared.edge.Edge.{Edge}
 use Rattle.chord.specs.Points.{Position}
 use Rattle.chord.specs.Crossing.{along, base, off}

@@ -1,14 +1,11 @@
 -- `nearest_div` meets its contract.
-use mathlib.Core.Path.{refl, ap, ap₂, _∙_}
-use Prim.Native.Nat.{_^_, _≤_}
+use mathlib.Core.Path.{_∙_}
 use native.Mathlib.Omega.{arith}
-use borrow.Author.Needs.{needs}
-use lib.IntN.{ℤ, pos, natAbs, _+ℤ_, _-ℤ_, _*ℤ_}
+use lib.IntN.{ℤ, pos, natAbs, _-ℤ_, _*ℤ_}
 use mir.Syntax.{w64}
 use mir.Val.{toZ, ofZ}
 use Rattle.arith.specs.Nearest.{nearest}
 use Rattle.arith.proofs.Bounds.{sized, in-range, exact, within}
-use Rattle.offset.specs.Offset.{signedBy}
 use Rattle.offset.proofs.Division.{above-bits, above-exact, above-times, nearest-of, nearest-size, with-size}
 use Rattle.offset.proofs.offset.nearest_div.Statement.{statement}
 use Rattle.offset.proofs.offset.nearest_div.Tie as tie
@@ -22,8 +19,10 @@ add-result c = let s-size = c .signed-by .ensures .1 in in-range (search sized d
 div-result : tie.Need-div-result
 div-result c =
     let given = c .before .pre in
+    let d = c .before .args .d in
     let s-size = c .signed-by .ensures .1 in
-    (above-bits w64 (pos 2 *ℤ toZ w64 (ofZ w64 (c .before .args .d))) (above-exact (search sized depth 9) tt (above-times 2 (omega arith) (c .before .args .d) (given .above))), in-range (search sized depth 12) tt)
+    let twice = above-exact {z = pos 2 *ℤ toZ w64 (ofZ w64 d)} (search sized depth 9) tt (above-times 2 (omega arith) d (given .above)) in
+    (above-bits w64 _ twice, in-range (search sized depth 12) tt)
 
 returns : tie.Need-returns
 returns c =
@@ -39,4 +38,5 @@ returns c =
 pub nearest-div-spec : {M : Type 1} → statement M
 nearest-div-spec =
     tie.close
-    (tie.spec (λ c. in-range (search sized depth 9) tt) (λ c. in-range (search sized depth 9) tt) signed-by-requires add-result (λ c. in-range (search sized depth 9) tt) div-result returns)
+    (tie.spec (λ c. in-range (search sized depth 9) tt) (λ c. in-range (search sized depth 9) tt) signed-by-requires add-result
+    (λ c. in-range (search sized depth 9) tt) div-result returns)
