@@ -10,3 +10,4 @@ pub mod Placing
 pub mod Integers
 pub mod Bounds
 pub mod Nearest
+pub mod Parity

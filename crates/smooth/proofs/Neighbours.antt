@@ -4,7 +4,7 @@
 use mathlib.Core.Path.{_≡_, refl, subst}
 use mathlib.Core.Logic.{inl, inr}
 use mathlib.Core.Bool.{Bool, true, false, not, true≢false}
-use Prim.Native.Nat.{ℕ, _+_, _≤_, _<_}
+use Prim.Native.Nat.{ℕ, _+_, _%_, _≤_, _<_}
 use native.Mathlib.Omega.{arith}
 use Rattle.grid.specs.Layer.{Layer}
 use Rattle.grid.specs.Edges.{isStick}
@@ -17,7 +17,7 @@ use Rattle.step.specs.declared.cell.Side.the-variants.{South, East, North, West
 use Rattle.step.proofs.Links.{sameSide}
 use Rattle.step.proofs.Walks.{isUpper, edgeOf-beside, there-other}
 use Rattle.chord.specs.Points.{Position, position}
-use Rattle.chord.specs.Crossing.{along, across, base, line}
+use Rattle.chord.specs.Crossing.{along, across, base, line, off}
 use Rattle.offset.specs.Offset.{Astride}
 
 -- the position is strictly above the line of the edge, or strictly below it
@@ -25,15 +25,24 @@ abbrev pub Past : Bool → Edge → Position → Type 0
 Past true e p = line e < across e p
 Past false e p = across e p < line e
 
--- the position is in a cell beside the edge, off the edge's line
+-- w off the line of an edge and at a along it, on another side of a cell beside the edge: the opposite one is a pitch off the line, the two
+-- lateral ones are nearer and lie on grid lines across it
+pub record OnSide (w a : ℕ) : Type 0 where
+  pub some : 0 < w
+  pub most : w ≤ 256
+  pub lateral : w < 256 → a % 256 ≡ 0
+
+-- the position is on another side of a cell beside the edge, off the edge's line
 pub record Beside (upper : Bool) (e : Edge) (p : Position) : Type 0 where
   pub past : Past upper e p
   pub from : base e ≤ along e p
   pub to : along e p ≤ base e + 256
+  pub on-side : OnSide (off e p) (along e p)
 
 -- a vertex of another side of the cell
 other-side : (c r : ℕ) (s t : Side) → sameSide t s ≡ false → (o : ℕ) → 1 ≤ o → o ≤ 255
     → Beside (isUpper s) (edgeOn c r s) (position (edgeOn c r t) o)
+unfolding off
 other-side c r South South d o l h = absurd (true≢false d)
 other-side c r South East d o l h = omega arith
 other-side c r South North d o l h = omega arith

@@ -98,11 +98,11 @@ abbrev pub AllSticks : Layer → List Edge → Type 0
 AllSticks L c = (e : Edge) → 0 < occurrences (walkOf L) e c → isStick L e ≡ true
 
 module _ {L : Layer} (sound : Sound L) where
-  head-stick : (e : Edge) (c : List Edge) → AllSticks L (e ∷ c) → isStick L e ≡ true
+  pub head-stick : (e : Edge) (c : List Edge) → AllSticks L (e ∷ c) → isStick L e ≡ true
   unfolding occurrences
   head-stick e c h = h e (omega (arith, ap asNumber (laws L sound .same-self e)))
 
-  tail-sticks : (e : Edge) (c : List Edge) → AllSticks L (e ∷ c) → AllSticks L c
+  pub tail-sticks : (e : Edge) (c : List Edge) → AllSticks L (e ∷ c) → AllSticks L c
   unfolding occurrences
   tail-sticks e c h f o = h f (omega arith)
 
@@ -121,11 +121,11 @@ module _ {L : Layer} (sound : Sound L) where
   -- ---- a pass over the layer
 
   -- it is a pass over all contours, one after the other
-  pass-walked : (t : List ℕ) → pass L t ≡ passContour L (passed t 0) (walked (walkOf L))
+  pub pass-walked : (t : List ℕ) → pass L t ≡ passContour L (passed t 0) (walked (walkOf L))
   unfolding pass passContour
   pass-walked t = foldl-flatten (visit L) (passed t 0) (contoursOf L)
 
-  walked-sticks : AllSticks L (walked (walkOf L))
+  pub walked-sticks : AllSticks L (walked (walkOf L))
   walked-sticks = walked-one (walkOf L) (laws L sound)
 
   pub pass-kept : {t : List ℕ} → AllKept L t → AllKept L (pass L t .table)

@@ -1,0 +1,176 @@
+-- An exact half never occurs in a smoothing step: 4·v would be an odd whole number, and the segment between vertices of other sides of the two
+-- cells beside a stick meets it at no such v. So Smooth is the same wherever a half goes, also with the paper's "a half upward" (specs/Former).
+use mathlib.Core.Path.{_≡_, refl, sym, _∙_, ap}
+use mathlib.Core.Bool.{true, false}
+use mathlib.Core.List.{List, [], _∷_, foldl}
+use Prim.Native.Nat.{ℕ, zero, suc, _+_, _*_, _/_, _<_}
+use native.Mathlib.Decide.{decLt}
+use native.Mathlib.Omega.{arith}
+use lib.IntN.{ℤ, pos, negsuc, natAbs, _+ℤ_, _-ℤ_, _*ℤ_}
+use Rattle.arith.specs.Integers.{positivePart}
+use Rattle.arith.specs.Nearest.{IsHalf}
+use Rattle.arith.proofs.Integers.{ints, at, viaℕ, toℕ}
+use Rattle.arith.proofs.Nearest.{half-scaled}
+use Rattle.arith.proofs.Parity.{odd-divides, odd-never}
+use Rattle.grid.specs.Layer.{Layer}
+use Rattle.grid.specs.Edges.{isStick}
+use Rattle.grid.specs.Questions.{Sound, firstNo, ifAllYes}
+use Rattle.grid.specs.declared.edge.Edge.{Edge}
+use Rattle.grid.specs.declared.question.Answer.{Answer}
+use Rattle.grid.specs.declared.question.Answer.the-variants.{Yes, No}
+use Rattle.step.specs.Walk.{next, prev}
+use Rattle.contour.specs.Walk.{walked}
+use Rattle.contour.specs.Contours.{walkOf, contoursOf}
+use Rattle.contour.proofs.Outer.{foldl-flatten}
+use Rattle.chord.specs.Points.{Position, Point, Meets, slide}
+use Rattle.chord.specs.Crossing.{base, distance, off, along, meeting}
+use Rattle.table.specs.Vertices.{offsetAt}
+use Rattle.table.specs.Stores.{slid}
+use Rattle.table.proofs.AllKept.{AllKept}
+use Rattle.drawn.specs.Drawn.{vertex}
+use Rattle.held.specs.Questions.{keptQuestions}
+use Rattle.offset.specs.Offset.{unrounded, spread, shift, signedBy, offsetBy, newOffset, Around}
+use Rattle.offset.proofs.Rounding.{unrounded-scaled, rounded-upward}
+use Rattle.offset.proofs.Meeting.{spread-is, shift-is, meets-at}
+use Rattle.offset.proofs.Offsets.{spread-some}
+use Rattle.smooth.specs.Smooth.{smoothedAt, Pass, passed, visit, passContour, pass, vertexCount, isSettled, Smoothed, unsmoothed, further, until, smooth}
+use Rattle.smooth.specs.Call.{Outcome, refusedWith, doneWith, smoothOf}
+use Rattle.smooth.specs.Former.{roundedUp, formerAt, formerVisit, formerPass, former, formerOf}
+use Rattle.smooth.proofs.Neighbours.{OnSide}
+use Rattle.smooth.proofs.Steps.{previous-vertex, next-vertex, neighbours-around, visit-kept}
+use Rattle.smooth.proofs.Passes.{AllSticks, head-stick, tail-sticks, pass-walked, walked-sticks, pass-kept}
+use Rattle.smooth.proofs.Walking.{smoothable-kept}
+use Rattle.smooth.proofs.Held.{smoothable-of}
+use Rattle.smooth.proofs.Limits.{standing}
+
+-- ---- on numbers
+
+-- an odd number that is 4·m / d is not negative
+odd-natural : (m d : ℕ) (i : ℤ) → 0 < d → pos (4 * m) ≡ pos d *ℤ (pos 2 *ℤ i +ℤ pos 1) → (i : ℕ) × (4 * m ≡ d * (2 * i + 1))
+odd-natural m d (pos i) some e = (i, omega (arith, toℕ e (search ints)))
+odd-natural m d (negsuc i) some e = absurd (omega (arith, toℕ e (search ints)))
+
+-- b + v is m / d, and old + 2/5 of (v - old) a half: then 4·m / d is odd
+half-odd : (b old m d : ℕ) (n : ℤ) → 0 < d → pos ((b + old) * d) +ℤ n ≡ pos m → IsHalf (unrounded old n d) (5 * d)
+    → (i : ℕ) × (4 * m ≡ d * (2 * i + 1))
+half-odd b old m d n some e (k, h) =
+    odd-natural m d (pos 5 *ℤ k +ℤ pos (2 * b + 2) -ℤ pos (3 * old)) some
+    (viaℕ (search (ints, at k) depth 9) (omega (arith, toℕ e (search (ints, at n)), toℕ h (search (ints, at n, at k) depth 9))))
+
+-- the mean of a and b, weighed as in `meeting`, is not an odd number of quarters
+module _ {u w a b : ℕ} (p : OnSide u a) (q : OnSide w b) (i : ℕ) (e : 4 * (w * a + u * b) ≡ (w + u) * (2 * i + 1)) where
+  -- both on opposite sides, or both on lateral ones
+  not-alike : (c : ℕ) → w * a + u * b ≡ 256 * c → ⊥
+  not-alike c is = omega (arith, p .some, p .most, q .most, odd-divides 10 c (w + u) i (omega (arith, e, is)) .1)
+
+  mean-even : ⊥
+  mean-even = elim (decLt u 256) [
+    | yes near ↦ elim (decLt w 256) [
+      | yes near′ ↦
+          let a-is : a ≡ 256 * (a / 256) = omega (arith, p .lateral near) in
+          let b-is : b ≡ 256 * (b / 256) = omega (arith, q .lateral near′) in
+          not-alike (w * (a / 256) + u * (b / 256)) (omega (arith, ap (λ (x : ℕ). w * x) a-is, ap (λ (x : ℕ). u * x) b-is))
+      | no far′ ↦
+          let w-is : w ≡ 256 = omega (arith, q .most) in
+          odd-never 8 u b a i (p .some) near (omega (arith, e, ap (λ (x : ℕ). x * a) w-is, ap (λ (x : ℕ). x * i) w-is))
+    ]
+    | no far ↦
+        let u-is : u ≡ 256 = omega (arith, p .most) in
+        elim (decLt w 256) [
+          | yes near′ ↦ odd-never 8 w a b i (q .some) near′ (omega (arith, e, ap (λ (x : ℕ). x * b) u-is, ap (λ (x : ℕ). x * i) u-is))
+          | no far′ ↦
+              let w-is : w ≡ 256 = omega (arith, q .most) in
+              not-alike (a + b) (omega (arith, ap (λ (x : ℕ). x * b) u-is, ap (λ (x : ℕ). x * a) w-is))
+        ]
+  ]
+
+-- ---- a step
+
+-- neighbours at p and q on other sides of the cells beside a stick, with v - old as the code has it, n / d
+module _ {p q : Position} {e : Edge} {old : ℕ} (around : Around p q e old)
+    (p-side : OnSide (off e p) (along e p)) (q-side : OnSide (off e q) (along e q)) where
+  abbrev n : ℤ
+  n = signedBy (shift p q e old) (spread p q e)
+
+  abbrev d : ℕ
+  d = natAbs (spread p q e)
+
+  no-half : IsHalf (unrounded old n d) (5 * d) → ⊥
+  no-half h =
+      let d-is = spread-is p q e old (around .apart) in
+      let odd = half-odd (base e) old (meeting p q e) d n (spread-some around) (rw d-is (shift-is p q e old (around .apart))) h in
+      mean-even p-side q-side (odd .0) (odd .1 ∙ ap (λ (k : ℕ). k * (2 * odd .0 + 1)) d-is)
+
+  no-half-at : (z : Point) → Meets z p q e → IsHalf (unrounded old (slide z e old) (z .d)) (5 * z .d) → ⊥
+  no-half-at z m h =
+      let same = unrounded-scaled old (slide z e old) n (z .d) d (meets-at p q e old (around .apart) z m) in
+      no-half (half-scaled (unrounded old (slide z e old) (z .d)) (unrounded old n d) (5 * z .d) (5 * d) (omega (arith, z .above)) same h)
+
+  same-offset : offsetBy roundedUp p q e old ≡ newOffset p q e old
+  unfolding newOffset roundedUp
+  same-offset = sym (ap positivePart (rounded-upward old n d (spread-some around) no-half))
+
+module _ {L : Layer} (sound : Sound L) where
+  module _ {t : List ℕ} (kept : AllKept L t) (e : Edge) (stick : isStick L e ≡ true) where
+    -- with v in the paper's words, at any point of the segment between the neighbours and the closed stick
+    pub half-never : (z : Point) → Meets z (vertex L t (prev L e)) (vertex L t (next L e)) e
+        → IsHalf (unrounded (offsetAt L t e) (slide z e (offsetAt L t e)) (z .d)) (5 * z .d) → ⊥
+    half-never =
+        no-half-at (neighbours-around sound kept e stick)
+        (previous-vertex sound kept e stick .on-side) (next-vertex sound kept e stick .on-side)
+
+    pub former-step : formerAt L t e ≡ smoothedAt L t e
+    former-step =
+        same-offset (neighbours-around sound kept e stick)
+        (previous-vertex sound kept e stick .on-side) (next-vertex sound kept e stick .on-side)
+
+  former-visit : (s : Pass) → AllKept L (s .table) → (e : Edge) → isStick L e ≡ true → formerVisit L s e ≡ visit L s e
+  unfolding formerVisit visit
+  former-visit s kept e stick =
+      let t = s .table in
+      ap (λ (new : ℕ). passed (slid L t e new) (s .total + distance (offsetAt L t e) new)) (former-step kept e stick)
+
+  -- ---- a pass
+
+  former-visits : (c : List Edge) → AllSticks L c → (s : Pass) → AllKept L (s .table) → foldl (formerVisit L) s c ≡ passContour L s c
+  unfolding passContour
+  former-visits [] h s kept = refl
+  former-visits (e ∷ c) h s kept =
+      let stick = head-stick sound e c h in
+      ap (λ (r : Pass). foldl (formerVisit L) r c) (former-visit s kept e stick)
+      ∙ former-visits c (tail-sticks sound e c h) (visit L s e) (visit-kept sound s kept e stick)
+
+  pub former-pass : {t : List ℕ} → AllKept L t → formerPass L t ≡ pass L t
+  unfolding formerPass
+  former-pass {t} kept =
+      foldl-flatten (formerVisit L) (passed t 0) (contoursOf L)
+      ∙ former-visits (walked (walkOf L)) (walked-sticks sound) (passed t 0) kept
+      ∙ sym (pass-walked sound t)
+
+  -- ---- smoothing
+
+  former-until : (n : ℕ) (s : Smoothed) → AllKept L (s .table) → until (formerPass L) (vertexCount L) n s ≡ until (pass L) (vertexCount L) n s
+  unfolding until further
+  former-until zero s kept = refl
+  former-until (suc n) s kept =
+      let v = vertexCount L in
+      let later : until (formerPass L) v n (further (formerPass L) v s) ≡ until (pass L) v n (further (pass L) v s) =
+      ap (λ (p : Pass). until (formerPass L) v n (standing (p .table) (s .passes + 1) (p .total) (isSettled (p .total) v))) (former-pass kept)
+      ∙ former-until n (further (pass L) v s) (pass-kept sound kept) in
+      ap (λ (r : Smoothed). elim (s .settled) [ true ↦ s | false ↦ r ]) later
+
+  pub former-smooth : (limit : ℕ) {t : List ℕ} → AllKept L t → former L limit t ≡ smooth L limit t
+  unfolding former smooth
+  former-smooth limit {t} kept = former-until limit (unsmoothed (vertexCount L) t) kept
+
+-- the call, whatever is lent
+pub same-smoothing : (L : Layer) (limit : ℕ) (t : List ℕ) → formerOf L limit t ≡ smoothOf L limit t
+unfolding formerOf smoothOf
+same-smoothing L limit t = by (firstNo (keptQuestions L t)) refl
+  where
+    call : Answer → Smoothed → Outcome
+    call answer s = ifAllYes answer (λ q place. refusedWith q place t) (doneWith s)
+
+    by : (answer : Answer) → firstNo (keptQuestions L t) ≡ answer → call answer (former L limit t) ≡ call answer (smooth L limit t)
+    by Yes e = let given = smoothable-of L t e in ap doneWith (former-smooth (given .sound) limit (smoothable-kept given))
+    by (No q place) e = refl
