@@ -193,14 +193,15 @@ uint32_t answer(uint64_t *figures, Refusal refusal, uint64_t one = 0, uint64_t t
 
 Layer layer_of(uint16_t w, uint16_t h, const uint8_t *bitmap) { return {w, h, size_t(w + 7) / 8, bitmap}; }
 
-int64_t floor_div(int64_t n, int64_t d) { return n >= 0 ? n / d : -((d - 1 - n) / d); }
-
+// top / 5d is old + 2/5 of (v - old), which is not below 0. The nearest whole number is that and a half, rounded down; above 128 a little less is
+// added, so that a half goes down there.
 uint16_t smoothed(Point p, Point q, const Stick &stick, int64_t old) {
     int64_t line = 256 * int64_t(stick.vertical ? stick.column : stick.row), base = 256 * int64_t(stick.vertical ? stick.row : stick.column);
     int64_t a = stick.vertical ? p.x : p.y, b = stick.vertical ? q.x : q.y, s = stick.vertical ? p.y : p.x, t = stick.vertical ? q.y : q.x;
     int64_t d = b - a, n = (s - base - old) * d + (t - s) * (line - a);
     if (d < 0) n = -n, d = -d;
-    return floor_div(2 * (5 * d * old + 2 * n) + 5 * d, 10 * d);
+    int64_t top = 5 * d * old + 2 * n;
+    return (2 * top + 5 * d - (top > 5 * d * 128)) / (10 * d);
 }
 
 struct Simplifier {

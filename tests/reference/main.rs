@@ -9,6 +9,7 @@ mod chord;
 mod contour;
 mod depth;
 mod flood;
+mod halves;
 mod hold;
 mod layer;
 mod machine;
@@ -38,11 +39,12 @@ use std::process::ExitCode;
 
 use script::Command;
 
-const USAGE: &str = "usage: reference make NAME.. | random NAME SEED | answer | faithful | show | test [SEED]
+const USAGE: &str = "usage: reference make NAME.. | random NAME SEED | answer | faithful | halves | show | test [SEED]
   make    writes the script of the sets NAME.., one after the other
   random  writes the same set made from another seed
   answer  reads a script and writes the answers to its calls
   faithful  runs the lists of calls of a script; silent if every table after an accepted opening is faithful
+  halves  writes what the program of this name has to write
   show    reads a script and prints it for a person
   test    checks the reference itself; silent if all is right";
 
@@ -72,6 +74,7 @@ fn run(words: &[&str]) -> Result<Vec<u8>, Failure> {
         ["random", name, word] => sets::script(name, Some(seed(word)?)).ok_or(Failure::Usage),
         ["answer"] => Ok(machine::answers(&read_script()?).into_bytes()),
         ["faithful"] => faithful(&read_script()?),
+        ["halves"] => Ok(halves::lines().into_bytes()),
         ["show"] => Ok(show::show(&read_script()?).into_bytes()),
         ["test"] => tested(None),
         ["test", word] => tested(Some(seed(word)?)),

@@ -1,6 +1,8 @@
 // Smooth: passes over all vertices, each drawn two fifths of the way towards
 // the segment between its neighbours, until settled or at the limit.
 
+use std::cmp::Ordering;
+
 use crate::chord::{meets, Fraction};
 use crate::contour::Contour;
 use crate::hold::{ask_1_to_7, ask_all_kept, offset, vertex_of};
@@ -13,19 +15,29 @@ pub struct Smoothed {
     pub settled: bool,
 }
 
+/// The rule for one vertex: from its old offset and v to its new offset.
+pub type Rule = fn(u8, Fraction) -> u8;
+
 /// "The new offset is old + 2/5 of (v - old), rounded once to the nearest whole
-/// number, a half upward": the floor of that value and a half.
+/// number", and of Note 2: "A half in the smoothing step is now rounded toward
+/// 128." 128 is whole, so a half below it goes up and one above it down.
 pub fn new_offset(old: u8, v: Fraction) -> u8 {
     let old = old as i128;
     // old + 2/5 (num/den - old) = (5 den old + 2 (num - den old)) / (5 den)
     let top = 5 * v.den * old + 2 * (v.num - v.den * old);
     let bottom = 5 * v.den;
-    (2 * top + bottom).div_euclid(2 * bottom) as u8
+    let (whole, rest) = (top.div_euclid(bottom), top.rem_euclid(bottom));
+    let up = match (2 * rest).cmp(&bottom) {
+        Ordering::Less => false,
+        Ordering::Equal => whole < 128,
+        Ordering::Greater => true,
+    };
+    (whole + up as i128) as u8
 }
 
 /// "The segment between the neighbours meets the closed stick at v, an exact
 /// fraction in 0 to 256."
-fn slide(layer: &Layer, contour: &[usize], table: &mut [u16], i: usize) -> u64 {
+fn slide(rule: Rule, layer: &Layer, contour: &[usize], table: &mut [u16], i: usize) -> u64 {
     let n = contour.len();
     let stick = contour[i];
     let before = vertex_of(layer, table, contour[(i + n - 1) % n]);
@@ -33,18 +45,18 @@ fn slide(layer: &Layer, contour: &[usize], table: &mut [u16], i: usize) -> u64 {
     let v = meets(before, after, layer.edge(stick))
         .expect("the neighbours lie on the two sides of the stick");
     let old = offset(table[stick]);
-    let new = new_offset(old, v);
+    let new = rule(old, v);
     table[stick] = new as u16;
     (new as i64 - old as i64).unsigned_abs()
 }
 
 /// "A pass visits vertices in contour order, each using its neighbours as they
 /// then are. ... The pass total is the sum of the absolute changes."
-fn pass(layer: &Layer, contours: &[Contour], table: &mut [u16]) -> u64 {
+fn pass(rule: Rule, layer: &Layer, contours: &[Contour], table: &mut [u16]) -> u64 {
     let mut total = 0;
     for contour in contours {
         for i in 0..contour.len() {
-            total += slide(layer, contour, table, i);
+            total += slide(rule, layer, contour, table, i);
         }
     }
     total
@@ -60,6 +72,18 @@ pub fn smooth(
     table: &mut [u16],
     limit: u16,
 ) -> Result<Smoothed, Refusal> {
+    smooth_by(new_offset, w, h, bitmap, table, limit)
+}
+
+/// The same, with this rule for one vertex.
+pub fn smooth_by(
+    rule: Rule,
+    w: u16,
+    h: u16,
+    bitmap: &[u8],
+    table: &mut [u16],
+    limit: u16,
+) -> Result<Smoothed, Refusal> {
     let (layer, contours) = ask_1_to_7(w, h, bitmap, table)?;
     ask_all_kept(table)?;
     let vertices: usize = contours.iter().map(|contour| contour.len()).sum();
@@ -69,7 +93,7 @@ pub fn smooth(
         settled: vertices == 0,
     };
     while !answer.settled && answer.passes < limit as u64 {
-        answer.total = pass(&layer, &contours, table);
+        answer.total = pass(rule, &layer, &contours, table);
         answer.passes += 1;
         answer.settled = 1000 * answer.total < 256 * vertices as u64;
     }

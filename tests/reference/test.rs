@@ -8,6 +8,7 @@ use crate::chord::{crosses, meets, vertex, Fraction, Point};
 use crate::contour::contours;
 use crate::depth::depths;
 use crate::flood;
+use crate::halves;
 use crate::hold::{contour_is_held, is_kept, is_removed};
 use crate::layer::{ask_1_to_4, Layer};
 use crate::machine::{answers, Machine};
@@ -17,7 +18,7 @@ use crate::planner::planner;
 use crate::prng::Rng;
 use crate::script::{parse, Command};
 use crate::sets::{script, SETS};
-use crate::smooth::new_offset;
+use crate::smooth::{new_offset, smooth_by};
 
 /// What is wrong is collected here.
 type Wrong = Vec<String>;
@@ -65,22 +66,102 @@ fn lies_on_line(a: Point, b: Point, v: Fraction, origin: Point, kind: u8) -> boo
     x * (b.y - a.y) == y * (b.x - a.x)
 }
 
-/// The new offset is the whole number k with k - 1/2 <= x < k + 1/2, where x is
-/// old + 2/5 (v - old).
+/// The rule for one vertex as the paper has it, with "a half upward" where Note 2
+/// has it go toward 128: the floor of x and a half, where x is old + 2/5 (v - old).
+fn half_upward(old: u8, v: Fraction) -> u8 {
+    (6 * v.den * old as i128 + 4 * v.num + 5 * v.den).div_euclid(10 * v.den) as u8
+}
+
+/// The new offset is the whole number nearest to x, and of two that are equally
+/// near the one nearer to 128; where x is a half above 128 a half upward gives
+/// another, elsewhere the same; old and v mirrored about 128 give it mirrored.
+/// Answers whether x is a half below 128, and whether it is one above.
+fn rounding(wrong: &mut Wrong, old: u8, v: Fraction) -> [bool; 2] {
+    let (num, den) = (v.num, v.den);
+    // 10 den x, to be compared with 10 den k.
+    let x = 6 * den * old as i128 + 4 * num;
+    let distance = |k: i128| (10 * den * k - x).abs();
+    let new = new_offset(old, v);
+    let near = (0..=256).min_by_key(|&k| (distance(k), (k - 128).abs()));
+    let half = distance(new as i128) == 5 * den;
+    let halves = [half && x < 1280 * den, half && x > 1280 * den];
+    let mirrored = Fraction {
+        num: 256 * den - num,
+        den,
+    };
+    let right = near == Some(new as i128)
+        && (1..=255).contains(&new)
+        && (half_upward(old, v) != new) == halves[1]
+        && new_offset((256 - old as u16) as u8, mirrored) as u16 == 256 - new as u16;
+    expect(wrong, right, || {
+        format!("rounding of {} towards {}/{}: {}", old, num, den, new)
+    });
+    halves
+}
+
+/// The rounding of random fractions, and of every half that an old offset can be
+/// drawn to: v is (10 k + 5 - 6 old) / 4 for a half k + 1/2, also written over
+/// another denominator.
 fn roundings(wrong: &mut Wrong, rng: &mut Rng) {
     for _ in 0..4000 {
         let den = rng.pick(&[1, 2, 3, 4, 5, 128, 255, 511, 1000]);
         let num = rng.below(256 * den + 1) as i128;
-        let (old, den) = (rng.between(1, 255) as u8, den as i128);
-        // 10 den x, to be compared with 10 den k - 5 den and 10 den k + 5 den.
-        let x = 6 * den * old as i128 + 4 * num;
-        let near = (0..=256).find(|k| 10 * den * k - 5 * den <= x && x < 10 * den * k + 5 * den);
-        let new = new_offset(old, Fraction { num, den });
-        let right = near == Some(new as i128) && new >= 1;
-        expect(wrong, right, || {
-            format!("rounding of {} towards {}/{}: {}", old, num, den, new)
+        let den = den as i128;
+        rounding(wrong, rng.between(1, 255) as u8, Fraction { num, den });
+    }
+    let mut seen = [0, 0];
+    for old in 1..=255 {
+        for k in 1..=254 {
+            let fourths = 10 * k + 5 - 6 * old as i128;
+            if !(0..=1024).contains(&fourths) {
+                continue;
+            }
+            let times = rng.pick(&[1, 1, 32, 125]);
+            let v = Fraction {
+                num: times * fourths,
+                den: times * 4,
+            };
+            let halves = rounding(wrong, old, v);
+            expect(wrong, halves == [k < 128, k >= 128], || {
+                format!("no half: {} towards {}/4", old, fourths)
+            });
+            seen = [seen[0] + halves[0] as usize, seen[1] + halves[1] as usize];
+        }
+    }
+    expect(wrong, seen[0] > 10_000 && seen[1] > 10_000, || {
+        format!("halves below and above 128: {:?}", seen)
+    });
+}
+
+/// No layer comes to a half: random ones with vertices at random offsets are
+/// smoothed as by a half upward.
+fn no_halves(wrong: &mut Wrong, rng: &mut Rng) {
+    for _ in 0..300 {
+        let layer = picture::any(rng, 12);
+        let mut machine = traced(&layer);
+        for entry in machine.table.iter_mut().filter(|entry| **entry != 0) {
+            *entry = rng.between(1, 255) as u16;
+        }
+        let mut table = machine.table.clone();
+        let (w, h, limit) = (machine.w, machine.h, 20);
+        let done = smooth_by(half_upward, w, h, &machine.bitmap, &mut table, limit).is_ok();
+        call(&mut machine, Command::Smooth { limit });
+        expect(wrong, done && machine.table == table, || {
+            format!("a half on {:?}", layer)
         });
     }
+}
+
+/// The lines of the halves program as Note 2 has them: a half goes toward 128.
+fn half_lines(wrong: &mut Wrong) {
+    let line = |k: u32| {
+        let new = if k < 128 { k + 1 } else { k };
+        format!("{}.5 {} {} {} {}\n", k, new, new, new, new)
+    };
+    let wanted: String = (1..=254).map(line).collect();
+    expect(wrong, halves::lines() == wanted, || {
+        "lines of the halves program".to_string()
+    });
 }
 
 /// Counts and contours against flood filling and plain counting.
@@ -498,6 +579,8 @@ pub fn wrong(seed: Option<u64>) -> Vec<String> {
     let mut rng = Rng(seed.unwrap_or(1));
     chords(&mut wrong, &mut rng);
     roundings(&mut wrong, &mut rng);
+    no_halves(&mut wrong, &mut rng);
+    half_lines(&mut wrong);
     counting(&mut wrong, &mut rng);
     held_or_not(&mut wrong, &mut rng);
     call_lists(&mut wrong, rng.next());

@@ -1,0 +1,2 @@
+-- Where the smoothing rule takes a half.
+pub mod Halves
