@@ -174,6 +174,33 @@ floor-mono {t} {u} {z} {w} {m} f g h =
 floor-only : {t z : ℤ} {m : ℕ} → 0 < m → Floor t m z → z ≡ floorDiv t m
 floor-only {t} h f = ≤ℤ-antisymm (floor-mono f (floor-is t h) (≤ℤ-refl t)) (floor-mono (floor-is t h) f (≤ℤ-refl t))
 
+-- a half toward c by a quotient rounded down: of n / d and a half, and above c, where s is 1, of n / d and just less than a half
+pub nearest-floor : (c n : ℤ) (s : ℕ) {d : ℕ} → 0 < d → s ≤ 1 → (s ≡ 0 → n ≤ℤ (c *ℤ pos d)) → (s ≡ 1 → (c *ℤ pos d) <ℤ n)
+    → floorDiv (pos 2 *ℤ n +ℤ pos d -ℤ pos s) (2 * d) ≡ nearestTo c n d
+nearest-floor c n s {d} h few up-to above =
+    let some : 0 < 2 * d = omega arith in
+    let t : ℤ = pos 2 *ℤ n +ℤ pos d -ℤ pos s in
+    let z : ℤ = floorDiv t (2 * d) in
+    let f = floor-is t some in
+    let least = toℕ (f .low) (search (ints, at n, at z) depth 9) in
+    let most = toℕ (f .high) (search (ints, at n, at z) depth 9) in
+    nearest-only c n h record {
+      low = viaℕ (search (ints, at n, at z) depth 9) (omega arith);
+      high = viaℕ (search (ints, at n, at z) depth 9) (omega arith);
+      raised = λ e.
+          let half = toℕ e (search (ints, at n, at z) depth 9) in
+          let l = toℕ (up-to (omega arith)) (search (ints, at n, at c)) in
+          let k : (pos 2 *ℤ z -ℤ pos 1) ≤ℤ (pos 2 *ℤ c) =
+          *ℤ-cancel-≤ (pos d) (omega arithℤ) (viaℕ (search (ints, at z, at c) depth 9) (omega arith)) in
+          viaℕ (search (ints, at z, at c)) (omega (arith, toℕ k (search (ints, at z, at c))));
+      lowered = λ e.
+          let half = toℕ e (search (ints, at n, at z) depth 9) in
+          let l = toℕ (above (omega arith)) (search (ints, at n, at c)) in
+          let k : (pos 2 *ℤ c) <ℤ (pos 2 *ℤ z +ℤ pos 1) =
+          *ℤ-cancel-< (pos d) (omega arithℤ) (viaℕ (search (ints, at z, at c) depth 9) (omega arith)) in
+          viaℕ (search (ints, at z, at c)) (omega (arith, toℕ k (search (ints, at z, at c))));
+    }
+
 -- where there is no half, it makes no difference where a half goes
 pub same-upward : (c n : ℤ) {d : ℕ} → 0 < d → (IsHalf n d → ⊥) → nearestTo c n d ≡ nearestUp n d
 unfolding nearestUp

@@ -1,51 +1,55 @@
--- The steps of the code's signed arithmetic, on integers: the machine's quotient, which is cut off toward zero, and one rounded to the nearest;
--- a fraction with a denominator above 0; casts. What fits a machine integer is read off by `Rattle.arith.proofs.Bounds`.
+-- The steps of the code's signed arithmetic, on integers: the machine's quotient, which rounds toward zero, and a quotient rounded down or to
+-- the nearest; a fraction with a denominator above 0; casts. What fits a machine integer is read off by `Rattle.arith.proofs.Bounds`.
 use mathlib.Core.Path.{_≡_, refl, sym, ap, ap₂, subst, _∙_}
-use mathlib.Core.Bool.{Bool, true, false, true≢false}
-use Prim.Native.Nat.{ℕ, suc, _+_, _*_, _-_, _/_, _≤_, _<_}
-use native.Mathlib.Nat.{div-le-self, mul-le-mul}
+use mathlib.Core.Bool.{Bool, true, false, cond, true≢false, false≢true}
+use Prim.Native.Nat.{ℕ, _+_, _*_, _/_, _≤_, _<_}
+use native.Mathlib.Nat.{add-div-right, div-le-self, mul-le-mul}
 use native.Mathlib.Omega.{arith}
 use lib.Dec.{T}
-use lib.IntN.{ℤ, pos, negsuc, negℤ, natAbs, _+ℤ_, _-ℤ_, _*ℤ_}
-use lib.Signed.{quotZ, nonNeg, ltZ, _<ℤ_}
+use lib.IntN.{ℤ, pos, negsuc, natAbs, _+ℤ_, _-ℤ_, _*ℤ_}
+use lib.Signed.{quotZ, nonNeg, leZ, ltZ, _<ℤ_}
 use mir.Syntax.{Width, w8}
 use mir.Val.{Fits, ofZ}
-use Rattle.arith.proofs.Integers.{ints, at, viaℕ, arithℤ, ltZ-true}
-use Rattle.arith.specs.Nearest.{nearest}
+use Rattle.arith.proofs.Integers.{ints, at, viaℕ, arithℤ, leZ-false, ltZ-true, ltZ-false}
+use Rattle.arith.specs.Nearest.{floorDiv, nearestTo}
+use Rattle.arith.proofs.Nearest.{nearest-floor}
 use Rattle.arith.proofs.Bounds.{Bounded, ok, pure, exact, natAbs-neg}
-use Rattle.offset.specs.Offset.{unrounded, middle, rounded, signedBy}
+use Rattle.offset.specs.Offset.{middle, aboveMiddle, rounded, signedBy}
 
 -- a number above 0 is no zero divisor
 pub above-bits : (w : Width) (m : ℤ) → pos 0 <ℤ m → 0 < ofZ w m
 above-bits w (pos n) h = omega arithℤ
 above-bits w (negsuc n) h = absurd (h .lt)
 
--- the nearest number to n / d is what the machine makes of (2·n + d - 1) / (2·d), with the sign of n before d - 1
-widened-up : (a d : ℕ) → 0 < d → pos 2 *ℤ pos a +ℤ (pos d -ℤ pos 1) ≡ pos (2 * a + (d - 1))
-widened-up a d h = viaℕ (search ints) (omega arith)
+-- a quotient that is not below 0 is rounded down by the machine
+pub floor-up : (t m : ℤ) → pos 0 <ℤ m → leZ (pos 0) t ≡ true → quotZ t m ≡ floorDiv t (natAbs m)
+unfolding floorDiv
+floor-up (pos a) (pos b) h e = refl
+floor-up (negsuc a) (pos b) h e = absurd (false≢true e)
+floor-up t (negsuc b) h e = absurd (h .lt)
 
-widened-down : (a d : ℕ) → 0 < d → pos 2 *ℤ negsuc a +ℤ negℤ (pos d -ℤ pos 1) ≡ negsuc (2 * a + 1 + (d - 1))
-widened-down a d h = viaℕ (search ints depth 9) (omega arith)
+-- and one below 0 is -((m - 1 - t) / m)
+past : (a b : ℕ) → 0 < b → pos b -ℤ pos 1 -ℤ negsuc a ≡ pos (a + b)
+past a b h = viaℕ (search ints) (omega arith)
 
-widened : (n d : ℤ) → pos 0 <ℤ d → quotZ (pos 2 *ℤ n +ℤ signedBy (d -ℤ pos 1) n) (pos 2 *ℤ d) ≡ nearest n (natAbs d)
-unfolding nearest
-widened (pos a) (pos d) h = ap (λ (t : ℤ). quotZ t (pos 2 *ℤ pos d)) (widened-up a d (omega arithℤ))
-widened (negsuc a) (pos d) h =
-    ap (λ (t : ℤ). quotZ t (pos 2 *ℤ pos d)) (widened-down a d (omega arithℤ)) ∙ ap (λ (t : ℕ). negℤ (pos (t / (2 * d)))) (omega arith)
-widened n (negsuc d) h = absurd (h .lt)
+below-zero : (k : ℕ) → pos 0 -ℤ pos (k + 1) ≡ negsuc k
+below-zero k = viaℕ (search ints) (omega arith)
 
--- s is what `signed_by` gave, of the machine's d - 1 and n
-pub nearest-of : {s m k : ℤ} (n d : ℤ) → pos 0 <ℤ d → s ≡ signedBy m k → m ≡ d -ℤ pos 1 → k ≡ n
-    → quotZ (pos 2 *ℤ n +ℤ s) (pos 2 *ℤ d) ≡ nearest n (natAbs d)
-nearest-of n d h es em ek = ap (λ (t : ℤ). quotZ (pos 2 *ℤ n +ℤ t) (pos 2 *ℤ d)) (es ∙ ap₂ signedBy em ek) ∙ widened n d h
+pub floor-down : (t m : ℤ) → pos 0 <ℤ m → leZ (pos 0) t ≡ false → pos 0 -ℤ quotZ (m -ℤ pos 1 -ℤ t) m ≡ floorDiv t (natAbs m)
+unfolding floorDiv
+floor-down (pos a) m h e = absurd (omega (arith, leZ-false (pos 0) (pos a) e))
+floor-down (negsuc a) (pos b) h e =
+    let some : 0 < b = omega arithℤ in
+    ap (λ (x : ℤ). pos 0 -ℤ quotZ x (pos b)) (past a b some)
+    ∙ ap (λ (n : ℕ). pos 0 -ℤ pos n) (add-div-right a some)
+    ∙ below-zero (a / b)
+floor-down (negsuc a) (negsuc b) h e = absurd (h .lt)
 
 -- it is no larger than what is divided
-pub nearest-size : (n : ℤ) (d : ℕ) → natAbs (nearest n d) ≤ 2 * natAbs n + d
-unfolding nearest
-nearest-size (pos a) d = omega (arith, div-le-self (2 * a + (d - 1)) (2 * d))
-nearest-size (negsuc a) d =
-    let q = (2 * suc a + (d - 1)) / (2 * d) in
-    rw (natAbs-neg (pos q)) (omega (arith, div-le-self (2 * suc a + (d - 1)) (2 * d)))
+pub floor-size : (t : ℤ) (m : ℕ) → natAbs (floorDiv t m) ≤ natAbs t
+unfolding floorDiv
+floor-size (pos a) m = div-le-self a m
+floor-size (negsuc a) m = omega (arith, div-le-self a m)
 
 -- a result with its size
 pub with-size : {r : ℤ} {B : ℕ} (z : ℤ) → r ≡ z → natAbs z ≤ B → (r ≡ z) × (natAbs r ≤ B)
@@ -58,6 +62,21 @@ test-exact test s t e = sym (ap test (exact s t)) ∙ e
 -- a machine term that is above 0
 pub above-exact : {z : ℤ} (s : Bounded z) → T (ok s) → pos 0 <ℤ pure s → pos 0 <ℤ z
 above-exact s t h = subst (λ (x : ℤ). pos 0 <ℤ x) (sym (exact s t)) h
+
+-- the nearest number to n / d, a half toward the middle, is (2·n + d) / (2·d), above the middle (2·n + d - 1) / (2·d), rounded down
+nearest-by : (n : ℤ) (d : ℕ) → 0 < d → (b : Bool) → ltZ (middle *ℤ pos d) n ≡ b
+    → floorDiv (pos 2 *ℤ n +ℤ pos d -ℤ pos (cond b 1 0)) (2 * d) ≡ nearestTo middle n d
+nearest-by n d h true e =
+    nearest-floor middle n 1 h (omega arith) (λ z. absurd (omega arith)) (λ o. omega (arithℤ, ltZ-true (middle *ℤ pos d) n e))
+nearest-by n d h false e =
+    nearest-floor middle n 0 h (omega arith) (λ z. omega (arithℤ, ltZ-false (middle *ℤ pos d) n e)) (λ o. absurd (omega arith))
+
+pub nearest-of : {x y s : ℤ} (n d : ℤ) → pos 0 <ℤ d → s ≡ pos (aboveMiddle n d) → x ≡ pos 2 *ℤ n +ℤ d -ℤ s → y ≡ pos 2 *ℤ d
+    → floorDiv x (natAbs y) ≡ nearestTo middle n (natAbs d)
+nearest-of n (pos d) h es ex ey =
+    ap₂ (λ (t : ℤ) (m : ℤ). floorDiv t (natAbs m)) (ex ∙ ap (λ (k : ℤ). pos 2 *ℤ n +ℤ pos d -ℤ k) es) ey
+    ∙ nearest-by n d (omega arithℤ) (ltZ (middle *ℤ pos d) n) refl
+nearest-of n (negsuc d) h es ex ey = absurd (h .lt)
 
 mul-pos : (k d : ℕ) → 0 < k → 0 < d → 0 < k * d
 mul-pos k d h l = omega (arith, mul-le-mul h l)
@@ -89,16 +108,12 @@ pub upon-size : (n d : ℤ) → natAbs (signedBy n d) ≡ natAbs n
 upon-size n (pos d) = refl
 upon-size n (negsuc d) = natAbs-neg n
 
--- (5·d·old + 2·n) / (5·d), counted from the middle
-from-middle : (old : ℕ) (n : ℤ) (d : ℕ) → unrounded old n d -ℤ pos (5 * d) *ℤ middle ≡ pos 5 *ℤ pos d *ℤ (pos old -ℤ middle) +ℤ pos 2 *ℤ n
-from-middle old n d = viaℕ (search (ints, at n) depth 9) (omega arith)
-
-pub rounded-of : {x y z : ℤ} (old : ℕ) (n d : ℤ) → pos 0 <ℤ d → z ≡ nearest x (natAbs y)
-    → x ≡ pos 5 *ℤ d *ℤ (pos old -ℤ middle) +ℤ pos 2 *ℤ n → y ≡ pos 5 *ℤ d → z +ℤ middle ≡ rounded old n (natAbs d)
+-- (5·d·old + 2·n) / (5·d)
+pub rounded-of : {x y : ℤ} (old : ℕ) (n d : ℤ) → pos 0 <ℤ d → x ≡ pos 5 *ℤ d *ℤ pos old +ℤ pos 2 *ℤ n → y ≡ pos 5 *ℤ d
+    → nearestTo middle x (natAbs y) ≡ rounded old n (natAbs d)
 unfolding rounded
-rounded-of old n (pos d) h ez ex ey =
-    ap (λ (k : ℤ). k +ℤ middle) (ez ∙ ap₂ (λ (t : ℤ) (m : ℤ). nearest t (natAbs m)) (ex ∙ sym (from-middle old n d)) ey)
-rounded-of old n (negsuc d) h ez ex ey = absurd (h .lt)
+rounded-of old n (pos d) h ex ey = ap₂ (λ (t : ℤ) (m : ℤ). nearestTo middle t (natAbs m)) ex ey
+rounded-of old n (negsuc d) h ex ey = absurd (h .lt)
 
 -- ---- a cast to a byte
 

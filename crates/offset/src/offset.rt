@@ -9,12 +9,40 @@ use grid::Edge;
 ghost use mathlib.Core.Path.{_≡_};
 ghost use Prim.Native.Nat.{_^_, _≤_};
 ghost use lib.IntN.{pos, natAbs};
-ghost use Rattle.arith.specs.Nearest.{nearest};
+ghost use Rattle.arith.specs.Nearest.{floorDiv, nearestTo};
 ghost use Rattle.chord.specs.Runs.{Near, NearEdge};
-ghost use Rattle.offset.specs.Offset.{rounded, Divisible, spread, shift, signedBy, newOffset, Movable};
+ghost use Rattle.offset.specs.Offset.{middle, aboveMiddle, rounded, Divisible, spread, shift, signedBy, newOffset, Movable};
 
-// The offset that halves go to.
+// t / m for an m above 0, rounded down.
+fn floor_div(t: i64, m: i64) -> i64
+    requires { ⌜ Divisible t m (2 ^ 44) (2 ^ 44) ⌝ }
+    ensures { λ r. ⌜ r ≡ floorDiv t (natAbs m) ⌝ }
+    ensures { λ r. ⌜ natAbs r ≤ 2 ^ 44 ⌝ }
+{
+    if t >= 0 { t / m } else { 0 - (m - 1 - t) / m }
+}
+
+// The offset that a half goes to.
 const MIDDLE: i64 = 128;
+
+// 1 if n / d lies above MIDDLE, for a d above 0, and 0 if not.
+fn above_middle(n: i64, d: i64) -> i64
+    requires { ⌜ Divisible n d (2 ^ 42) (2 ^ 42) ⌝ }
+    ensures { λ r. ⌜ r ≡ pos (aboveMiddle n d) ⌝ }
+    ensures { λ r. ⌜ natAbs r ≤ 1 ⌝ }
+{
+    if n > MIDDLE * d { 1 } else { 0 }
+}
+
+// n / d for a d above 0, rounded to the nearest whole number, a half toward MIDDLE: n / d and a half, rounded down, above MIDDLE with just less
+// than a half.
+fn nearest_div(n: i64, d: i64) -> i64
+    requires { ⌜ Divisible n d (2 ^ 42) (2 ^ 42) ⌝ }
+    ensures { λ r. ⌜ r ≡ nearestTo middle n (natAbs d) ⌝ }
+    ensures { λ r. ⌜ natAbs r ≤ 2 ^ 44 ⌝ }
+{
+    floor_div(2 * n + d - above_middle(n, d), 2 * d)
+}
 
 // A coordinate as a signed number.
 fn signed(n: usize) -> i64
@@ -60,31 +88,21 @@ fn size_of(d: i64) -> i64
 }
 
 fn signed_by(n: i64, d: i64) -> i64
-    requires { ⌜ natAbs n ≤ 2 ^ 42 ⌝ }
-    requires { ⌜ natAbs d ≤ 2 ^ 44 ⌝ }
+    requires { ⌜ natAbs n ≤ 2 ^ 40 ⌝ }
+    requires { ⌜ natAbs d ≤ 524288 ⌝ }
     ensures { λ r. ⌜ r ≡ signedBy n d ⌝ }
-    ensures { λ r. ⌜ natAbs r ≤ 2 ^ 42 ⌝ }
+    ensures { λ r. ⌜ natAbs r ≤ 2 ^ 40 ⌝ }
 {
     if d < 0 { 0 - n } else { n }
 }
 
-// n / d for a d above 0, rounded to the nearest whole number, a half toward zero: just less than a half is added to its size, and the division
-// cuts off toward zero.
-fn nearest_div(n: i64, d: i64) -> i64
-    requires { ⌜ Divisible n d (2 ^ 44) (2 ^ 41) ⌝ }
-    ensures { λ r. ⌜ r ≡ nearest n (natAbs d) ⌝ }
-    ensures { λ r. ⌜ natAbs r ≤ 2 ^ 46 ⌝ }
-{
-    (2 * n + signed_by(d - 1, n)) / (2 * d)
-}
-
-// old + 2/5 of n / d, rounded, a half toward the middle: as counted from there, toward zero.
+// old + 2/5 of n / d, rounded.
 fn rounded_of(old: u8, n: i64, d: i64) -> i64
-    requires { ⌜ Divisible n d (2 ^ 42) 524288 ⌝ }
+    requires { ⌜ Divisible n d (2 ^ 40) 524288 ⌝ }
     ensures { λ r. ⌜ r ≡ rounded old n (natAbs d) ⌝ }
-    ensures { λ r. ⌜ natAbs r ≤ 2 ^ 47 ⌝ }
+    ensures { λ r. ⌜ natAbs r ≤ 2 ^ 44 ⌝ }
 {
-    nearest_div(5 * d * (old as i64 - MIDDLE) + 2 * n, 5 * d) + MIDDLE
+    nearest_div(5 * d * old as i64 + 2 * n, 5 * d)
 }
 
 // The new offset of the vertex at `old` of the stick e, whose neighbours are at p and q.

@@ -18,12 +18,6 @@ spread-is : (c : tie.After-spread-of)
     → let a = c .before .args in toZ w64 (ofZ w64 (c .spread-of .result)) ≡ spread (a .p) (a .q) (a .e)
 spread-is c = let d-size = c .spread-of .ensures .1 in exact (search sized depth 9) tt ∙ c .spread-of .ensures .0
 
-signed-by-requires : tie.Need-signed-by-requires
-signed-by-requires c κs =
-    let n-size = c .shift-of .ensures .1 in
-    let d-size = c .before .spread-of .ensures .1 in
-    (within (search sized depth 9) tt, within (search sized depth 9) tt)
-
 rounded-of-requires : tie.Need-rounded-of-requires
 rounded-of-requires c κs =
     let spread-known = c .before .before .before in
@@ -68,5 +62,5 @@ returns c = ap natAbs (rounds c)
 pub new-offset-spec : {M : Type 1} → statement M
 new-offset-spec =
     tie.close
-    (tie.spec (λ c κs. search needs) (λ c κs. search needs) signed-by-requires (λ c κs. search needs) rounded-of-requires cast-result
+    (tie.spec (λ c κs. search needs) (λ c κs. search needs) (λ c κs. search needs) (λ c κs. search needs) rounded-of-requires cast-result
     returns)

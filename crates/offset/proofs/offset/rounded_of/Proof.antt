@@ -14,9 +14,6 @@ use Rattle.offset.proofs.offset.rounded_of.Tie as tie
 small : (c : tie.Start) → c .args .old ≤ 255
 small c = omega (arith, c .fits .old)
 
-sub-nearest-div : tie.Need-sub-nearest-div
-sub-nearest-div c = let old-size = small c in in-range (search sized depth 9) tt
-
 mul-nearest-div-2 : tie.Need-mul-nearest-div-2
 mul-nearest-div-2 c = let old-size = small c in in-range (search sized depth 9) tt
 
@@ -32,22 +29,21 @@ nearest-div-requires c κs =
       above = above-exact (search sized depth 9) tt (above-times 5 (omega arith) (c .args .d) (c .pre .above));
     }
 
-add-result : tie.Need-add-result
-add-result c = let r-size = c .nearest-div .ensures .1 in in-range (search sized depth 9) tt
-
 returns : tie.Need-returns
 returns c =
     let a = c .before .args in
     let given = c .before .pre in
     let old-size = small (c .before) in
     let r-size = c .nearest-div .ensures .1 in
+    let back = exact {z = toZ w64 (ofZ w64 (c .nearest-div .result))} (search sized depth 9) tt in
     let is =
-    rounded-of {y = toZ w64 (ofZ w64 (pos 5 *ℤ toZ w64 (ofZ w64 (a .d))))} (a .old) (a .n) (a .d) (given .above) (c .nearest-div .ensures .0)
+    c .nearest-div .ensures .0
+    ∙ rounded-of {y = toZ w64 (ofZ w64 (pos 5 *ℤ toZ w64 (ofZ w64 (a .d))))} (a .old) (a .n) (a .d) (given .above)
     (exact (search sized depth 9) tt) (exact (search sized depth 9) tt) in
-    (exact (search sized depth 9) tt ∙ is, within (search sized depth 9) tt)
+    (back ∙ is, rw back r-size)
 
 pub rounded-of-spec : {M : Type 1} → statement M
 rounded-of-spec =
     tie.close
-    (tie.spec (λ c. in-range (search sized depth 9) tt) (λ c. search needs) sub-nearest-div mul-nearest-div-2 (λ c. in-range (search sized depth 9) tt)
-    add-nearest-div (λ c. in-range (search sized depth 9) tt) nearest-div-requires add-result returns)
+    (tie.spec (λ c. in-range (search sized depth 9) tt) (λ c. search needs) mul-nearest-div-2 (λ c. in-range (search sized depth 9) tt)
+    add-nearest-div (λ c. in-range (search sized depth 9) tt) nearest-div-requires returns)

@@ -12,7 +12,7 @@ use Rattle.offset.proofs.Division.{with-size, test-exact, upon-below, u
 use Rattle.offset.proofs.offset.signed_by.Statement.{statement}
 use Rattle.offset.proofs.offset.signed_by.Tie as tie
 
-size : (c : tie.Start) → natAbs (signedBy (c .args .n) (c .args .d)) ≤ 2 ^ 42
+size : (c : tie.Start) → natAbs (signedBy (c .args .n) (c .args .d)) ≤ 2 ^ 40
 size c = omega (arith, upon-size (c .args .n) (c .args .d), c .pre .0)
 
 returns : tie.Need-returns
