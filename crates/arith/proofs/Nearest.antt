@@ -174,6 +174,17 @@ floor-mono {t} {u} {z} {w} {m} f g h =
 floor-only : {t z : ℤ} {m : ℕ} → 0 < m → Floor t m z → z ≡ floorDiv t m
 floor-only {t} h f = ≤ℤ-antisymm (floor-mono f (floor-is t h) (≤ℤ-refl t)) (floor-mono (floor-is t h) f (≤ℤ-refl t))
 
+-- "a half upward": half way from k to the next number it goes to the next
+pub half-upward : (n k : ℤ) {d : ℕ} → 0 < d → pos 2 *ℤ n ≡ pos d *ℤ (pos 2 *ℤ k +ℤ pos 1) → nearestUp n d ≡ k +ℤ pos 1
+unfolding nearestUp
+half-upward n k {d} h e =
+    let some : 0 < 2 * d = omega arith in
+    let half = toℕ e (search (ints, at n, at k) depth 9) in
+    sym (floor-only {t = pos 2 *ℤ n +ℤ pos d} some record {
+      low = viaℕ (search (ints, at n, at k) depth 9) (omega arith);
+      high = viaℕ (search (ints, at n, at k) depth 9) (omega arith);
+    })
+
 -- a half toward c by a quotient rounded down: of n / d and a half, and above c, where s is 1, of n / d and just less than a half
 pub nearest-floor : (c n : ℤ) (s : ℕ) {d : ℕ} → 0 < d → s ≤ 1 → (s ≡ 0 → n ≤ℤ (c *ℤ pos d)) → (s ≡ 1 → (c *ℤ pos d) <ℤ n)
     → floorDiv (pos 2 *ℤ n +ℤ pos d -ℤ pos s) (2 * d) ≡ nearestTo c n d

@@ -1,5 +1,5 @@
--- Division of an integer by a natural above 0, rounded to the nearest whole number. The roundings here differ only in where a half goes: toward zero
--- (`nearest`), toward a given number (`nearestTo`) or upward (`nearestUp`).
+-- Division of an integer by a natural above 0, rounded to the nearest whole number, with a half toward zero (`nearest`), toward a given number
+-- (`nearestTo`) or upward (`nearestUp`), and rounded down (`floorDiv`).
 use mathlib.Core.Path.{_≡_}
 use Prim.Native.Nat.{ℕ, suc, _+_, _*_, _-_, _/_}
 use lib.IntN.{ℤ, pos, negsuc, negℤ, _+ℤ_, _-ℤ_, _*ℤ_}

@@ -8,8 +8,8 @@ ghost use mathlib.Core.Path.{_≡_};
 ghost use Prim.Native.Nat.{_≤_};
 ghost use Rattle.halves.specs.Halves.{IsPlaced, movedTo, towardMiddle};
 
-// The new offset of the vertex at `old` of a stick on the line 256, whose neighbours lie 1 before that line and 3 after it, so far along the
-// stick: v is (3·before + after) / 4.
+// The new offset of the vertex at `old` of a stick on the line 256, whose neighbours lie 1 before that line and 3 after it, at `before` and
+// `after` along the stick: v is (3·before + after) / 4.
 fn moved(vertical: bool, old: u8, before: usize, after: usize) -> u8
     requires { ⌜ IsPlaced old before after ⌝ }
     ensures { λ r. ⌜ r ≡ movedTo vertical old before after ⌝ }

@@ -1,5 +1,6 @@
 -- The mirror law of the new offset, for every segment and offset that the rule is asked of and for both kinds of stick. The segment meets the
--- line at meeting / total; mirrored, v - old is what it was with the other sign, and the law of the rounding (`rounded-mirror`) does the rest.
+-- line at meeting / total; mirrored along the stick, v - old is what it was with the other sign, and the law of the rounding (`rounded-mirror`)
+-- does the rest; mirrored across the stick it is what it was.
 use mathlib.Core.Path.{_≡_, refl, sym, ap, ap₂, _∙_}
 use mathlib.Core.Logic.{inl, inr}
 use mathlib.Core.Bool.{Bool, true, false}
@@ -11,9 +12,10 @@ use Rattle.arith.proofs.Integers.{ints, at, viaℕ, toℕ}
 use Rattle.grid.specs.declared.edge.Edge.{Edge}
 use Rattle.chord.specs.Points.{Position}
 use Rattle.chord.specs.Crossing.{along, across, base, off, meeting, total}
+use Rattle.chord.specs.Runs.{Near, NearEdge}
 use Rattle.chord.proofs.EdgePoints.{edge}
-use Rattle.offset.specs.Offset.{rounded, spread, shift, signedBy, newOffset, Around}
-use Rattle.offset.specs.Mirror.{mirror, Image}
+use Rattle.offset.specs.Offset.{rounded, spread, shift, signedBy, newOffset, Around, Movable}
+use Rattle.offset.specs.Mirror.{mirror, Image, Facing}
 use Rattle.offset.proofs.Rounding.{rounded-mirror}
 use Rattle.offset.proofs.Meeting.{spread-is, shift-is}
 use Rattle.offset.proofs.Offsets.{new-is}
@@ -52,6 +54,8 @@ new-turned {p} {q} {e} {old} a =
     ∙ ap₂ (λ (m t : ℕ). rounded old (pos m -ℤ pos ((base e + old) * t)) t) same-meeting same-total
     ∙ sym (new-from (turned a)))
 
+-- ---- on two sticks across the mirror
+
 pulled-back : (a b α β o o′ u w u′ w′ : ℕ) → u + u′ ≡ a + b + 256 → w + w′ ≡ a + b + 256 → o + o′ ≡ 256
     → pos (α * u′ + β * w′) -ℤ pos ((b + o′) * (α + β)) ≡ negℤ (pos (α * u + β * w) -ℤ pos ((a + o) * (α + β)))
 pulled-back a b α β o o′ u w u′ w′ eu ew eo =
@@ -75,6 +79,26 @@ pub new-mirror-turned : {p q p′ q′ : Position} {e e′ : Edge} {old old′ :
     → Image e p e′ q′ → Image e q e′ p′ → newOffset p q e old + newOffset p′ q′ e′ old′ ≡ 256
 new-mirror-turned {p} {q} {e = e} {old = old} here there sum i j =
     ap (λ n. newOffset p q e old + n) (new-turned there) ∙ new-mirror here (turned there) sum i j
+
+-- ---- on two sticks along the mirror
+
+pulled-alike : (a b α β o u w u′ w′ : ℕ) → u + b ≡ u′ + a → w + b ≡ w′ + a
+    → pos (α * u′ + β * w′) -ℤ pos ((b + o) * (α + β)) ≡ pos (α * u + β * w) -ℤ pos ((a + o) * (α + β))
+pulled-alike a b α β o u w u′ w′ eu ew = viaℕ (search ints depth 9) (omega (arith, ap (λ k. α * k) eu, ap (λ k. β * k) ew))
+
+-- the same offset gives the same new offset, in either order of the neighbours
+pub new-facing : {p q p′ q′ : Position} {e e′ : Edge} {old : ℕ} → Around p q e old → Around p′ q′ e′ old
+    → Facing e p e′ p′ → Facing e q e′ q′ → newOffset p q e old ≡ newOffset p′ q′ e′ old
+new-facing {p} {q} {p′} {q′} {e} {e′} {old} here there i j =
+    let same-total : total p′ q′ e′ ≡ total p q e = omega (arith, i .as-far, j .as-far) in
+    let same-pull : pull p′ q′ e′ old ≡ pull p q e old =
+    rw (sym (i .as-far), sym (j .as-far))
+    (pulled-alike (base e) (base e′) (off e q) (off e p) old (along e p) (along e q) (along e′ p′) (along e′ q′) (i .level) (j .level)) in
+    ap natAbs (new-from here ∙ sym (new-from there ∙ ap₂ (rounded old) same-pull same-total))
+
+pub new-facing-turned : {p q p′ q′ : Position} {e e′ : Edge} {old : ℕ} → Around p q e old → Around p′ q′ e′ old
+    → Facing e p e′ q′ → Facing e q e′ p′ → newOffset p q e old ≡ newOffset p′ q′ e′ old
+new-facing-turned here there i j = new-facing here (turned there) i j ∙ sym (new-turned there)
 
 -- ---- on one stick
 
@@ -113,3 +137,16 @@ module _ {p q : Position} {e : Edge} {old : ℕ} (around : Around p q e old) whe
   new-mirrored =
       let whole : old + (256 - old) ≡ 256 = omega (arith, around .high) in
       omega (arith, new-mirror around mirror-around whole (image p (around .p-to)) (image q (around .q-to)))
+
+-- and so is the code
+near-mirror : (v : Bool) (c r : ℕ) (p : Position) → let e = edge v c r in NearEdge e → base e ≤ along e p → Near p → Near (mirror e p)
+near-mirror true c r p e-near from h = record { x-most = h .x-most; y-most = omega (arith, e-near .row-below) }
+near-mirror false c r p e-near from h = record { x-most = omega (arith, e-near .column-below); y-most = h .y-most }
+
+pub mirror-movable : {p q : Position} {e : Edge} {old : ℕ} → Movable p q e old → Movable (mirror e p) (mirror e q) e (256 - old)
+mirror-movable {p} {q} {e} m = record {
+  p-near = near-mirror (e .vertical) (e .column) (e .row) p (m .e-near) (m .around .p-from) (m .p-near);
+  q-near = near-mirror (e .vertical) (e .column) (e .row) q (m .e-near) (m .around .q-from) (m .q-near);
+  e-near = m .e-near;
+  around = mirror-around (m .around);
+}

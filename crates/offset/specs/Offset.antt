@@ -1,6 +1,6 @@
 -- The new offset of one vertex, from its old offset and its two neighbours: "The segment between the neighbours meets the closed stick at v, an
 -- exact fraction in 0 to 256. From signed differences of coordinates, the new offset is old + 2/5 of (v - old), rounded once to the nearest
--- whole number", and where a half goes Note 2 says. That shift / spread is this v - old is shown in smooth (proofs/Steps.antt).
+-- whole number", and where a half goes Note 2 says. That it is this v is shown in proofs/Offsets.antt (`new-at`).
 use mathlib.Core.Logic.{_⊎_}
 use mathlib.Core.Bool.{cond}
 use Prim.Native.Nat.{ℕ, _+_, _*_, _≤_, _<_}
@@ -26,7 +26,7 @@ unfoldable pub rounded : ℕ → ℤ → ℕ → ℤ
 unfolding nearestTo
 rounded old n d = nearestTo middle (unrounded old n d) (5 * d)
 
--- 1 if n / d lies above the middle, else 0: by so much the code adds less than a half there before it rounds down
+-- 1 if n / d lies above the middle, else 0: the code takes it off 2·n + d, which it divides by 2·d and rounds down
 abbrev pub aboveMiddle : ℤ → ℤ → ℕ
 aboveMiddle n d = cond (ltZ (middle *ℤ d) n) 1 0
 
@@ -51,10 +51,11 @@ abbrev pub signedBy : ℤ → ℤ → ℤ
 signedBy n (pos d) = n
 signedBy n (negsuc d) = negℤ n
 
--- the new offset of the vertex at offset `old` of the stick e, whose neighbours are at p and q, by a rounding; it is above 0 (proofs/Offsets.antt)
+-- the new offset of the vertex at offset `old` of the stick e, whose neighbours are at p and q, by a rounding
 abbrev pub offsetBy : (ℕ → ℤ → ℕ → ℤ) → Position → Position → Edge → ℕ → ℕ
 offsetBy round p q e old = positivePart (round old (signedBy (shift p q e old) (spread p q e)) (natAbs (spread p q e)))
 
+-- and by that of Note 2, which is 1 to 255 (proofs/Offsets.antt)
 unfoldable pub newOffset : Position → Position → Edge → ℕ → ℕ
 unfolding rounded
 newOffset = offsetBy rounded

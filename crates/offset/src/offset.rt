@@ -22,7 +22,7 @@ fn floor_div(t: i64, m: i64) -> i64
     if t >= 0 { t / m } else { 0 - (m - 1 - t) / m }
 }
 
-// The offset that a half goes to.
+// The offset toward which a half goes.
 const MIDDLE: i64 = 128;
 
 // 1 if n / d lies above MIDDLE, for a d above 0, and 0 if not.
@@ -34,8 +34,8 @@ fn above_middle(n: i64, d: i64) -> i64
     if n > MIDDLE * d { 1 } else { 0 }
 }
 
-// n / d for a d above 0, rounded to the nearest whole number, a half toward MIDDLE: n / d and a half, rounded down, above MIDDLE with just less
-// than a half.
+// n / d for a d above 0, rounded to the nearest whole number, a half toward MIDDLE: n / d + 1/2 rounded down; above MIDDLE, where a half goes
+// down, 1/(2d) less.
 fn nearest_div(n: i64, d: i64) -> i64
     requires { ⌜ Divisible n d (2 ^ 42) (2 ^ 42) ⌝ }
     ensures { λ r. ⌜ r ≡ nearestTo middle n (natAbs d) ⌝ }

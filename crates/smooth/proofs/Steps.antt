@@ -1,6 +1,6 @@
 -- The step at one stick of a sound layer whose vertices are all kept: the segment between the neighbours meets the closed stick at a v of 0 to
 -- 256, the new offset is 1 to 255, and nothing else changes.
-use mathlib.Core.Path.{_≡_, refl, sym, _∙_, ap}
+use mathlib.Core.Path.{_≡_, refl, ap}
 use mathlib.Core.Logic.{_≢_}
 use mathlib.Core.Bool.{true, not}
 use mathlib.Core.List.{List}
@@ -25,10 +25,9 @@ use Rattle.table.proofs.Stores.{store-elsewhere, store-length, store-here, stor
 use Rattle.drawn.specs.Drawn.{vertex}
 use Rattle.offset.specs.Offset.{rounded, Around}
 use Rattle.smooth.specs.Smooth.{smoothedAt, Pass, visit}
-use Rattle.offset.proofs.Rounding.{rounded-scaled}
-use Rattle.offset.proofs.Meeting.{meeting-inside, meets, meets-at}
+use Rattle.offset.proofs.Meeting.{meeting-inside, meets}
 use Rattle.smooth.proofs.Neighbours.{Beside, next-beside, prev-beside, beside-apart}
-use Rattle.offset.proofs.Offsets.{spread-some, new-is, new-inside}
+use Rattle.offset.proofs.Offsets.{new-at, new-inside}
 
 -- what a step does
 module _ (L : Layer) (s : Pass) (e : Edge) where
@@ -90,10 +89,7 @@ module _ {L : Layer} (sound : Sound L) where
     -- rounded
     pub smoothed-is : (z : Point) → Meets z (vertex L t (prev L e)) (vertex L t (next L e)) e
         → pos (smoothedAt L t e) ≡ rounded (offsetAt L t e) (slide z e (offsetAt L t e)) (z .d)
-    smoothed-is z m =
-        let o = offsetAt L t e in
-        new-is neighbours-around
-        ∙ rounded-scaled o _ _ _ _ (spread-some neighbours-around) (z .above) (sym (meets-at _ _ e o (neighbours-around .apart) z m))
+    smoothed-is = new-at neighbours-around
 
     -- so the new offset is 1 to 255
     pub smoothed-inside : Inside (smoothedAt L t e)
