@@ -1,20 +1,20 @@
 -- The steps of the code's signed arithmetic, on integers: the machine's quotient, which rounds toward zero, and a quotient rounded down or to
 -- the nearest; a fraction with a denominator above 0; casts. What fits a machine integer is read off by `Rattle.arith.proofs.Bounds`.
 use mathlib.Core.Path.{_≡_, refl, sym, ap, ap₂, subst, _∙_}
-use mathlib.Core.Bool.{Bool, true, false, cond, true≢false, false≢true}
+use mathlib.Core.Bool.{Bool, true, false, true≢false, false≢true}
 use Prim.Native.Nat.{ℕ, _+_, _*_, _/_, _≤_, _<_}
 use native.Mathlib.Nat.{add-div-right, div-le-self, mul-le-mul}
 use native.Mathlib.Omega.{arith}
 use lib.Dec.{T}
 use lib.IntN.{ℤ, pos, negsuc, natAbs, _+ℤ_, _-ℤ_, _*ℤ_}
-use lib.Signed.{quotZ, nonNeg, leZ, ltZ, _<ℤ_}
+use lib.Signed.{quotZ, nonNeg, leZ, ltZ, _≤ℤ_, _<ℤ_}
 use mir.Syntax.{Width, w8}
 use mir.Val.{Fits, ofZ}
-use Rattle.arith.proofs.Integers.{ints, at, viaℕ, arithℤ, leZ-false, ltZ-true, ltZ-false}
+use Rattle.arith.proofs.Integers.{ints, at, viaℕ, arithℤ, leZ-false, ltZ-true}
 use Rattle.arith.specs.Nearest.{floorDiv, nearestTo}
 use Rattle.arith.proofs.Nearest.{nearest-floor}
 use Rattle.arith.proofs.Bounds.{Bounded, ok, pure, exact, natAbs-neg}
-use Rattle.offset.specs.Offset.{middle, aboveMiddle, rounded, signedBy}
+use Rattle.offset.specs.Offset.{middle, rounded, signedBy}
 
 -- a number above 0 is no zero divisor
 pub above-bits : (w : Width) (m : ℤ) → pos 0 <ℤ m → 0 < ofZ w m
@@ -63,20 +63,19 @@ test-exact test s t e = sym (ap test (exact s t)) ∙ e
 pub above-exact : {z : ℤ} (s : Bounded z) → T (ok s) → pos 0 <ℤ pure s → pos 0 <ℤ z
 above-exact s t h = subst (λ (x : ℤ). pos 0 <ℤ x) (sym (exact s t)) h
 
--- the nearest number to n / d, a half toward the middle, is (2·n + d) / (2·d), above the middle (2·n + d - 1) / (2·d), rounded down
-nearest-by : (n : ℤ) (d : ℕ) → 0 < d → (b : Bool) → ltZ (middle *ℤ pos d) n ≡ b
-    → floorDiv (pos 2 *ℤ n +ℤ pos d -ℤ pos (cond b 1 0)) (2 * d) ≡ nearestTo middle n d
-nearest-by n d h true e =
-    nearest-floor middle n 1 h (omega arith) (λ z. absurd (omega arith)) (λ o. omega (arithℤ, ltZ-true (middle *ℤ pos d) n e))
-nearest-by n d h false e =
-    nearest-floor middle n 0 h (omega arith) (λ z. omega (arithℤ, ltZ-false (middle *ℤ pos d) n e)) (λ o. absurd (omega arith))
+-- what is taken off 2·n + d, before it is divided by 2·d and rounded down: 1 if n / d lies above the middle, and 0 if not
+pub record TakenOff (n d : ℤ) (s : ℕ) : Type 0 where
+  pub few : s ≤ 1
+  pub up-to : s ≡ 0 → n ≤ℤ (middle *ℤ d)
+  pub above : s ≡ 1 → (middle *ℤ d) <ℤ n
 
-pub nearest-of : {x y s : ℤ} (n d : ℤ) → pos 0 <ℤ d → s ≡ pos (aboveMiddle n d) → x ≡ pos 2 *ℤ n +ℤ d -ℤ s → y ≡ pos 2 *ℤ d
+-- that is the nearest number to n / d, a half toward the middle
+pub nearest-of : {x y : ℤ} {s : ℕ} (n d : ℤ) → pos 0 <ℤ d → TakenOff n d s → x ≡ pos 2 *ℤ n +ℤ d -ℤ pos s → y ≡ pos 2 *ℤ d
     → floorDiv x (natAbs y) ≡ nearestTo middle n (natAbs d)
-nearest-of n (pos d) h es ex ey =
-    ap₂ (λ (t : ℤ) (m : ℤ). floorDiv t (natAbs m)) (ex ∙ ap (λ (k : ℤ). pos 2 *ℤ n +ℤ pos d -ℤ k) es) ey
-    ∙ nearest-by n d (omega arithℤ) (ltZ (middle *ℤ pos d) n) refl
-nearest-of n (negsuc d) h es ex ey = absurd (h .lt)
+nearest-of {s = s} n (pos d) h off ex ey =
+    ap₂ (λ (t : ℤ) (m : ℤ). floorDiv t (natAbs m)) ex ey
+    ∙ nearest-floor middle n s (omega arithℤ) (off .few) (off .up-to) (off .above)
+nearest-of n (negsuc d) h off ex ey = absurd (h .lt)
 
 mul-pos : (k d : ℕ) → 0 < k → 0 < d → 0 < k * d
 mul-pos k d h l = omega (arith, mul-le-mul h l)

@@ -2,10 +2,9 @@
 -- exact fraction in 0 to 256. From signed differences of coordinates, the new offset is old + 2/5 of (v - old), rounded once to the nearest
 -- whole number", and where a half goes Note 2 says. That it is this v is shown in proofs/Offsets.antt (`new-at`).
 use mathlib.Core.Logic.{_⊎_}
-use mathlib.Core.Bool.{cond}
 use Prim.Native.Nat.{ℕ, _+_, _*_, _≤_, _<_}
 use lib.IntN.{ℤ, pos, negsuc, negℤ, natAbs, _+ℤ_, _-ℤ_, _*ℤ_}
-use lib.Signed.{ltZ, _<ℤ_}
+use lib.Signed.{_<ℤ_}
 use Rattle.arith.specs.Integers.{positivePart}
 use Rattle.arith.specs.Nearest.{nearestTo}
 use Rattle.grid.specs.declared.edge.Edge.{Edge}
@@ -25,10 +24,6 @@ middle = pos 128
 unfoldable pub rounded : ℕ → ℤ → ℕ → ℤ
 unfolding nearestTo
 rounded old n d = nearestTo middle (unrounded old n d) (5 * d)
-
--- 1 if n / d lies above the middle, else 0: the code takes it off 2·n + d, which it divides by 2·d and rounds down
-abbrev pub aboveMiddle : ℤ → ℤ → ℕ
-aboveMiddle n d = cond (ltZ (middle *ℤ d) n) 1 0
 
 -- What the code asks of a division: a numerator and a denominator of at most these sizes, the denominator above 0
 pub record Divisible (n d : ℤ) (N D : ℕ) : Type 0 where

@@ -11,7 +11,7 @@ ghost use Prim.Native.Nat.{_^_, _≤_};
 ghost use lib.IntN.{pos, natAbs};
 ghost use Rattle.arith.specs.Nearest.{floorDiv, nearestTo};
 ghost use Rattle.chord.specs.Runs.{Near, NearEdge};
-ghost use Rattle.offset.specs.Offset.{middle, aboveMiddle, rounded, Divisible, spread, shift, signedBy, newOffset, Movable};
+ghost use Rattle.offset.specs.Offset.{middle, rounded, Divisible, spread, shift, signedBy, newOffset, Movable};
 
 // t / m for an m above 0, rounded down.
 fn floor_div(t: i64, m: i64) -> i64
@@ -25,15 +25,6 @@ fn floor_div(t: i64, m: i64) -> i64
 // The offset toward which a half goes.
 const MIDDLE: i64 = 128;
 
-// 1 if n / d lies above MIDDLE, for a d above 0, and 0 if not.
-fn above_middle(n: i64, d: i64) -> i64
-    requires { ⌜ Divisible n d (2 ^ 42) (2 ^ 42) ⌝ }
-    ensures { λ r. ⌜ r ≡ pos (aboveMiddle n d) ⌝ }
-    ensures { λ r. ⌜ natAbs r ≤ 1 ⌝ }
-{
-    if n > MIDDLE * d { 1 } else { 0 }
-}
-
 // n / d for a d above 0, rounded to the nearest whole number, a half toward MIDDLE: n / d + 1/2 rounded down; above MIDDLE, where a half goes
 // down, 1/(2d) less.
 fn nearest_div(n: i64, d: i64) -> i64
@@ -41,7 +32,8 @@ fn nearest_div(n: i64, d: i64) -> i64
     ensures { λ r. ⌜ r ≡ nearestTo middle n (natAbs d) ⌝ }
     ensures { λ r. ⌜ natAbs r ≤ 2 ^ 44 ⌝ }
 {
-    floor_div(2 * n + d - above_middle(n, d), 2 * d)
+    let less = if n > MIDDLE * d { 1 } else { 0 };
+    floor_div(2 * n + d - less, 2 * d)
 }
 
 // A coordinate as a signed number.

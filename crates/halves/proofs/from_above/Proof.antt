@@ -1,6 +1,6 @@
 -- `from_above` meets its contract.
 use mathlib.Core.Path.{_∙_}
-use Prim.Native.Nat.{_+_, _-_}
+use Prim.Native.Nat.{_-_}
 use native.Mathlib.Omega.{arith}
 use borrow.Author.Needs.{needs}
 use Rattle.halves.proofs.Halves.{half-goes}
@@ -11,7 +11,7 @@ returns : tie.Need-returns
 returns c =
     let start = c .before in
     let k = start .args .k in
-    c .moved .ensures ∙ half-goes (start .args .vertical) {old = k + 1} {before = k} {after = k - 1} k (search needs) (omega (arith, start .pre))
+    c .moved .ensures ∙ half-goes (start .args .vertical) k (search needs) (omega (arith, start .pre))
 
 pub from-above-spec : {M : Type 1} → statement M
 from-above-spec =

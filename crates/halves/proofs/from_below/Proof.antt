@@ -1,6 +1,5 @@
 -- `from_below` meets its contract.
 use mathlib.Core.Path.{_∙_}
-use Prim.Native.Nat.{_+_}
 use native.Mathlib.Omega.{arith}
 use borrow.Author.Needs.{needs}
 use Rattle.halves.proofs.Halves.{half-goes}
@@ -11,7 +10,7 @@ returns : tie.Need-returns
 returns c =
     let start = c .before in
     let k = start .args .k in
-    c .moved .ensures ∙ half-goes (start .args .vertical) {old = k} {before = k + 1} {after = k + 2} k (search needs) (omega (arith, start .pre))
+    c .moved .ensures ∙ half-goes (start .args .vertical) k (search needs) (omega (arith, start .pre))
 
 pub from-below-spec : {M : Type 1} → statement M
 from-below-spec =
