@@ -1,14 +1,16 @@
 -- The contours of a layer: the walk from stick to stick, the list of sticks that it passes until it comes back, and all such lists in order.
+use mathlib.Core.Path.{_≡_}
 use mathlib.Core.Bool.{Bool, cond, _&&_, _||_, Bool·beq}
 use mathlib.Core.List.{List}
 use Prim.Native.Nat.{ℕ}
 use lib.Dec.{eqb, ltb}
 use lib.ListN.{length}
+use Rattle.arith.specs.Booleans.{asNumber}
 use Rattle.grid.specs.Layer.{Layer}
 use Rattle.grid.specs.Edges.{number, edgeAt, edgeCount, isStick}
 use Rattle.step.specs.Walk.{next, prev}
 use Rattle.grid.specs.declared.edge.Edge.{Edge}
-use Rattle.contour.specs.Walk.{Walk, contour, firsts, contours}
+use Rattle.contour.specs.Walk.{Walk, contour, occurrences, first, firsts, contours}
 
 abbrev pub sameEdge : Edge → Edge → Bool
 sameEdge e f = Bool·beq (e .vertical) (f .vertical) && eqb (e .column) (f .column) && eqb (e .row) (f .row)
@@ -37,6 +39,10 @@ firstSticks L = firsts (walkOf L)
 
 abbrev pub contoursOf : Layer → List (List Edge)
 contoursOf L = contours (walkOf L)
+
+-- an order of the contours, by their first sticks: a list that has each first stick once, and nothing else
+abbrev pub EachFirstOnce : Layer → List Edge → Type 0
+EachFirstOnce L order = (e : Edge) → occurrences (walkOf L) e order ≡ asNumber (first (walkOf L) e)
 
 -- the third figure of Counts: "and the contours"
 abbrev pub contourCount : Layer → ℕ

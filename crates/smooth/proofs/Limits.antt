@@ -1,64 +1,91 @@
--- What a loop over passes cites: the invariant `PartSmoothed`, the sizes of its numbers, the next turn's, and both ends.
-use mathlib.Core.Path.{_≡_, sym, _∙_, ap, subst}
+-- What a loop over the passes of one contour cites: the invariant `PartSettled`, the sizes of its numbers, the next turn's, and both ends.
+use mathlib.Core.Path.{_≡_, refl, sym, _∙_, ap, subst}
 use mathlib.Core.Bool.{Bool, true, false}
 use mathlib.Core.List.{List}
 use Prim.Native.Nat.{ℕ, suc, _+_, _-_, _≤_, _<_}
 use native.Mathlib.Omega.{arith}
 use lib.Dec.{eqb}
+use lib.ListN.{length}
 use Rattle.grid.specs.Layer.{Layer}
+use Rattle.grid.specs.Edges.{isStick}
 use Rattle.grid.specs.Questions.{Sound}
+use Rattle.grid.specs.declared.edge.Edge.{Edge}
+use Rattle.contour.specs.Walk.{rest}
+use Rattle.contour.specs.Contours.{contourOf}
 use Rattle.table.proofs.AllKept.{AllKept}
-use Rattle.smooth.specs.Smooth.{Pass, passed, pass, vertexCount, isSettled, mostTotal, Smoothed, further, until, smooth}
-use Rattle.smooth.proofs.Passes.{smooth-is, further-is, until-none, until-settled, until-more, pass-kept}
-use Rattle.smooth.proofs.Sizes.{total-most}
+use Rattle.smooth.specs.Smooth.{Pass, contourPass, isSettled, mostVertices, mostTotal, Smoothed, further, until, smoothContour}
+use Rattle.smooth.specs.Visit.{PassMade}
+use Rattle.smooth.specs.declared.pass.PassCounts.{PassCounts}
+use Rattle.smooth.proofs.Passes.{contour-is, further-is, until-none, until-settled, until-more, contourPass-kept}
+use Rattle.smooth.proofs.Sizes.{contour-most, pass-most}
 
 abbrev pub standing : List ℕ → ℕ → ℕ → Bool → Smoothed
 standing t passes total settled = record { table = t; passes = passes; total = total; settled = settled }
 
+-- at most n passes more over the contour of f
+abbrev more : Layer → Edge → ℕ → Smoothed → Smoothed
+more L f n s = until (contourPass L f) (length (contourOf L f)) n s
+
 -- After these passes, those that the limit still allows give the result of the whole.
-pub record PartSmoothed (L : Layer) (limit : ℕ) (t₀ t : List ℕ) (passes total : ℕ) (settled : Bool) : Type 0 where
+pub record PartSettled (L : Layer) (limit : ℕ) (t₀ : List ℕ) (f : Edge) (t : List ℕ) (passes total : ℕ) (settled : Bool) : Type 0 where
   pub kept : AllKept L t
   pub within : passes ≤ limit
-  pub still : until (pass L) (vertexCount L) (limit - passes) (standing t passes total settled) ≡ smooth L limit t₀
+  pub still : more L f (limit - passes) (standing t passes total settled) ≡ smoothContour L limit t₀ f
 
-pub smoothing-start : {L : Layer} {limit : ℕ} {t : List ℕ} → AllKept L t → PartSmoothed L limit t t 0 0 (eqb (vertexCount L) 0)
-smoothing-start {L} {limit} {t} kept =
+-- a contour has a vertex, so it is not settled before any pass
+contour-some : (L : Layer) (f : Edge) → eqb (length (contourOf L f)) 0 ≡ false
+unfolding rest
+contour-some L f = refl
+
+pub settling-start : {L : Layer} {limit : ℕ} {t : List ℕ} {f : Edge} → AllKept L t → PartSettled L limit t f t 0 0 false
+settling-start {L} {limit} {t} {f} kept =
     let all : limit - 0 ≡ limit = omega arith in
-    record { kept = kept; within = omega arith; still = rw all (sym (smooth-is L limit t)) }
+    record {
+      kept = kept;
+      within = omega arith;
+      still = rw all (ap (λ (b : Bool). more L f limit (standing t 0 0 b)) (sym (contour-some L f)) ∙ sym (contour-is L limit t f));
+    }
 
-module _ {L : Layer} {limit passes total : ℕ} {t₀ t : List ℕ} {settled : Bool} (g : PartSmoothed L limit t₀ t passes total settled) where
+module _ {L : Layer} {limit passes total : ℕ} {t₀ t : List ℕ} {f : Edge} {settled : Bool}
+    (g : PartSettled L limit t₀ f t passes total settled) where
   abbrev here : Smoothed
   here = standing t passes total settled
 
-  -- the limit is reached
-  pub smoothing-limit : limit ≤ passes → standing t passes total settled ≡ smooth L limit t₀
-  smoothing-limit l =
-      let none : limit - passes ≡ 0 = omega arith in
-      sym (until-none (pass L) (vertexCount L) here) ∙ sym (ap (λ (n : ℕ). until (pass L) (vertexCount L) n here) none) ∙ g .still
+  abbrev n : ℕ
+  n = length (contourOf L f)
 
-  -- smoothing is settled
-  pub smoothing-settled : settled ≡ true → standing t passes total settled ≡ smooth L limit t₀
-  smoothing-settled y = sym (until-settled (pass L) (vertexCount L) (limit - passes) here y) ∙ g .still
+  -- the limit is reached
+  pub settling-limit : limit ≤ passes → standing t passes total settled ≡ smoothContour L limit t₀ f
+  settling-limit l =
+      let none : limit - passes ≡ 0 = omega arith in
+      sym (until-none (contourPass L f) n here) ∙ sym (ap (λ (m : ℕ). more L f m here) none) ∙ g .still
+
+  -- the contour is settled
+  pub settling-settled : settled ≡ true → standing t passes total settled ≡ smoothContour L limit t₀ f
+  settling-settled y = sym (until-settled (contourPass L f) n (limit - passes) here y) ∙ g .still
 
   -- one pass more
-  module _ (sound : Sound L) {t′ : List ℕ} {total′ : ℕ} (is : passed t′ total′ ≡ pass L t) where
-    pub smoothing-most : total′ ≤ mostTotal
-    smoothing-most = omega (arith, ap (λ (p : Pass). p .total) is, total-most sound (g .kept))
+  module _ (sound : Sound L) (stick : isStick L f ≡ true) {r : PassCounts} {t′ : List ℕ} (made : PassMade L t f r t′) where
+    pub settling-most : (r .total ≤ mostTotal) × (r .vertices ≤ mostVertices)
+    settling-most = (
+      omega (arith, ap (λ (p : Pass). p .total) (made .pass-is), pass-most sound f stick (g .kept)),
+      omega (arith, made .vertices-is, contour-most sound f stick),
+    )
 
-    pub smoothing-turn : passes < limit → settled ≡ false → {settled′ : Bool} → settled′ ≡ isSettled total′ (vertexCount L)
-        → PartSmoothed L limit t₀ t′ (passes + 1) total′ settled′
-    smoothing-turn l y {settled′} e =
+    pub settling-turn : passes < limit → settled ≡ false → {settled′ : Bool} → settled′ ≡ isSettled (r .total) (r .vertices)
+        → PartSettled L limit t₀ f t′ (passes + 1) (r .total) settled′
+    settling-turn l y {settled′} e =
         let one : limit - passes ≡ suc (limit - (passes + 1)) = omega arith in
-        let after : standing t′ (passes + 1) total′ settled′ ≡ further (pass L) (vertexCount L) here =
-        ap (standing t′ (passes + 1) total′) e
-        ∙ ap (λ (p : Pass). standing (p .table) (passes + 1) (p .total) (isSettled (p .total) (vertexCount L))) is
-        ∙ sym (further-is (pass L) (vertexCount L) here) in
+        let after : standing t′ (passes + 1) (r .total) settled′ ≡ further (contourPass L f) n here =
+        ap (standing t′ (passes + 1) (r .total)) (e ∙ ap (isSettled (r .total)) (made .vertices-is))
+        ∙ ap (λ (p : Pass). standing (p .table) (passes + 1) (p .total) (isSettled (p .total) n)) (made .pass-is)
+        ∙ sym (further-is (contourPass L f) n here) in
         record {
-          kept = subst (λ (p : Pass). AllKept L (p .table)) (sym is) (pass-kept sound (g .kept));
+          kept = subst (λ (p : Pass). AllKept L (p .table)) (sym (made .pass-is)) (contourPass-kept sound f stick (g .kept));
           within = omega arith;
           still =
-              ap (until (pass L) (vertexCount L) (limit - (passes + 1))) after
-              ∙ sym (until-more (pass L) (vertexCount L) (limit - (passes + 1)) here y)
-              ∙ sym (ap (λ (n : ℕ). until (pass L) (vertexCount L) n here) one)
+              ap (more L f (limit - (passes + 1))) after
+              ∙ sym (until-more (contourPass L f) n (limit - (passes + 1)) here y)
+              ∙ sym (ap (λ (m : ℕ). more L f m here) one)
               ∙ g .still;
         }

@@ -1,5 +1,5 @@
--- Passes and smoothing on a sound layer whose vertices are all kept: they keep the table's length, every entry off the sticks that they
--- visit, and every vertex kept at an offset of 1 to 255. So nothing is removed.
+-- Passes over one contour, and its smoothing, on a sound layer whose vertices are all kept: they keep the table's length, every entry off the sticks
+-- that they visit, and every vertex kept at an offset of 1 to 255. So nothing is removed.
 use mathlib.Core.Path.{_≡_, refl, sym, _∙_, ap}
 use mathlib.Core.Bool.{Bool, true, false, true≢false}
 use mathlib.Core.List.{List, [], _∷_, foldl}
@@ -12,32 +12,24 @@ use Rattle.grid.specs.Layer.{Layer}
 use Rattle.grid.specs.Edges.{isStick}
 use Rattle.grid.specs.Questions.{Sound}
 use Rattle.grid.specs.declared.edge.Edge.{Edge}
-use Rattle.contour.specs.Walk.{occurrences, walked}
-use Rattle.contour.specs.Contours.{walkOf, contoursOf}
+use Rattle.contour.specs.Walk.{occurrences}
+use Rattle.contour.specs.Contours.{walkOf, contourOf}
+use Rattle.contour.proofs.Members.{on-one}
 use Rattle.contour.proofs.Sticks.{laws}
-use Rattle.contour.proofs.Outer.{foldl-flatten}
-use Rattle.contour.proofs.Contours.{walked-one}
-use Rattle.contour.proofs.Theorems.{total-length}
 use Rattle.table.proofs.AllKept.{AllKept}
-use Rattle.smooth.specs.Smooth.{Pass, passed, visit, passContour, pass, vertexCount, isSettled, Smoothed, unsmoothed, further, until, smooth}
+use Rattle.smooth.specs.Smooth.{Pass, passed, visit, passContour, contourPass, isSettled, Smoothed, further, until, unsmoothed, settle, smoothContour}
 use Rattle.smooth.proofs.Steps.{visit-kept, visit-total}
 
--- what a pass is made of: what a loop over contours cites
-module _ (L : Layer) where
-  pub passContour-is : (s : Pass) (c : List Edge) → passContour L s c ≡ foldl (visit L) s c
-  unfolding passContour
-  passContour-is s c = refl
+pub passContour-is : (L : Layer) (s : Pass) (c : List Edge) → passContour L s c ≡ foldl (visit L) s c
+unfolding passContour
+passContour-is L s c = refl
 
-  pub pass-is : (t : List ℕ) → pass L t ≡ foldl (passContour L) (passed t 0) (contoursOf L)
-  unfolding pass
-  pass-is t = refl
+pub contour-is : (L : Layer) (limit : ℕ) (t : List ℕ) (f : Edge)
+    → smoothContour L limit t f ≡ settle (contourPass L f) (length (contourOf L f)) limit t
+unfolding smoothContour
+contour-is L limit t f = refl
 
-  pub smooth-is : (limit : ℕ) (t : List ℕ)
-      → smooth L limit t ≡ until (pass L) (vertexCount L) limit (unsmoothed (vertexCount L) t)
-  unfolding smooth
-  smooth-is limit t = refl
-
--- how smoothing goes on: what a loop over passes cites
+-- how passes go on: what a loop over them cites
 module _ (onePass : List ℕ → Pass) (vertices : ℕ) where
   pub further-is : (s : Smoothed)
       → let p : Pass = onePass (s .table) in
@@ -49,7 +41,7 @@ module _ (onePass : List ℕ → Pass) (vertices : ℕ) where
   unfolding until
   until-none s = refl
 
-  -- a step of it, by whether smoothing is settled
+  -- a step of it, by whether the contour is settled
   by-settled : ℕ → Smoothed → Bool → Smoothed
   by-settled n s b = elim b [ true ↦ s | false ↦ until onePass vertices n (further onePass vertices s) ]
 
@@ -62,7 +54,7 @@ module _ (onePass : List ℕ → Pass) (vertices : ℕ) where
   unfolding until by-settled
   until-more n s y = ap (by-settled n s) y
 
-  -- "until the limit": no pass beyond it, and all of them unless smoothing is settled
+  -- "until the limit": no pass beyond it, and all of them unless it is settled
   pub until-passes : (n : ℕ) (s : Smoothed)
       → let r : Smoothed = until onePass vertices n s in (r .passes ≤ s .passes + n) × (r .settled ≡ false → r .passes ≡ s .passes + n)
   until-passes zero s = rw (until-none s) (omega arith, λ y. omega arith)
@@ -73,24 +65,13 @@ module _ (onePass : List ℕ → Pass) (vertices : ℕ) where
       let one : further onePass vertices s .passes ≡ s .passes + 1 = ap (λ (r : Smoothed). r .passes) (further-is s) in
       rw (until-more n s y) (omega (arith, later .0), λ no-more. omega (arith, later .1 no-more)))
 
-  -- what each pass keeps, smoothing keeps
-  pub until-keeps : (P : List ℕ → Type 0) → ((t : List ℕ) → P t → P (onePass t .table)) → (n : ℕ) (s : Smoothed) → P (s .table)
-      → P (until onePass vertices n s .table)
+  -- what each pass keeps, all of them keep
+  pub until-keeps : (P : Smoothed → Type 0) → ((s : Smoothed) → P s → P (further onePass vertices s)) → (n : ℕ) (s : Smoothed) → P s
+      → P (until onePass vertices n s)
   until-keeps P keeps zero s h = rw (until-none s) h
   until-keeps P keeps (suc n) s h = both-sides (s .settled)
       (λ y. rw (until-settled (suc n) s y) h)
-      (λ y. rw (until-more n s y)
-      (until-keeps P keeps n (further onePass vertices s) (rw (further-is s) (keeps (s .table) h))))
-
--- the limit
-module _ (L : Layer) (limit : ℕ) (t : List ℕ) where
-  pub passes-most : smooth L limit t .passes ≤ limit
-  passes-most = rw (smooth-is L limit t) (omega (arith, until-passes (pass L) (vertexCount L) limit (unsmoothed (vertexCount L) t) .0))
-
-  pub passes-all : smooth L limit t .settled ≡ false → smooth L limit t .passes ≡ limit
-  passes-all =
-      rw (smooth-is L limit t)
-      λ y. omega (arith, until-passes (pass L) (vertexCount L) limit (unsmoothed (vertexCount L) t) .1 y)
+      (λ y. rw (until-more n s y) (until-keeps P keeps n (further onePass vertices s) (keeps s h)))
 
 -- ---- a list of sticks, such as a contour
 
@@ -118,27 +99,38 @@ module _ {L : Layer} (sound : Sound L) where
       let stick = head-stick e c h in
       omega (arith, visit-total sound s kept e stick, passContour-total c (tail-sticks e c h) (visit L s e) (visit-kept sound s kept e stick))
 
-  -- ---- a pass over the layer
+  -- ---- the contour of a stick
 
-  -- it is a pass over all contours, one after the other
-  pub pass-walked : (t : List ℕ) → pass L t ≡ passContour L (passed t 0) (walked (walkOf L))
-  unfolding pass passContour
-  pass-walked t = foldl-flatten (visit L) (passed t 0) (contoursOf L)
+  module _ (f : Edge) (stick : isStick L f ≡ true) where
+    pub contour-sticks : AllSticks L (contourOf L f)
+    contour-sticks e o = on-one (walkOf L) (laws L sound) f e stick o
 
-  pub walked-sticks : AllSticks L (walked (walkOf L))
-  walked-sticks = walked-one (walkOf L) (laws L sound)
+    pub contourPass-kept : {t : List ℕ} → AllKept L t → AllKept L (contourPass L f t .table)
+    contourPass-kept {t} kept = passContour-kept (contourOf L f) contour-sticks (passed t 0) kept
 
-  pub pass-kept : {t : List ℕ} → AllKept L t → AllKept L (pass L t .table)
-  pass-kept {t} kept = rw (pass-walked t) (passContour-kept (walked (walkOf L)) walked-sticks (passed t 0) kept)
+    pub contourPass-total : {t : List ℕ} → AllKept L t → contourPass L f t .total ≤ 254 * length (contourOf L f)
+    contourPass-total {t} kept = omega (arith, passContour-total (contourOf L f) contour-sticks (passed t 0) kept)
 
-  pub pass-total : {t : List ℕ} → AllKept L t → pass L t .total ≤ 254 * vertexCount L
-  pass-total {t} kept =
-      rw (pass-walked t)
-      (omega (arith, passContour-total (walked (walkOf L)) walked-sticks (passed t 0) kept, total-length L sound))
+    -- what its smoothing leaves: every vertex is kept, at an offset of 1 to 255, and the total is at most 254 for each vertex
+    pub record Kept (s : Smoothed) : Type 0 where
+      pub kept : AllKept L (s .table)
+      pub total-most : s .total ≤ 254 * length (contourOf L f)
 
-  -- ---- smoothing: every vertex is kept, at an offset of 1 to 255, after it as before
+    pub contour-kept : (limit : ℕ) {t : List ℕ} → AllKept L t → Kept (smoothContour L limit t f)
+    contour-kept limit {t} kept =
+        rw (contour-is L limit t f)
+        (until-keeps (contourPass L f) n Kept
+        (λ s h. rw (further-is (contourPass L f) n s)
+        (record { kept = contourPass-kept (h .kept); total-most = contourPass-total (h .kept) }))
+        limit (unsmoothed (contourPass L f) n t) (record { kept = kept; total-most = omega arith }))
+      where
+        n : ℕ
+        n = length (contourOf L f)
 
-  pub smooth-kept : (limit : ℕ) {t : List ℕ} → AllKept L t → AllKept L (smooth L limit t .table)
-  smooth-kept limit {t} kept =
-      rw (smooth-is L limit t)
-      (until-keeps (pass L) (vertexCount L) (AllKept L) (λ u h. pass-kept h) limit (unsmoothed (vertexCount L) t) kept)
+-- the limit
+module _ (L : Layer) (limit : ℕ) (t : List ℕ) (f : Edge) where
+  pub contour-passes : let r : Smoothed = smoothContour L limit t f in (r .passes ≤ limit) × (r .settled ≡ false → r .passes ≡ limit)
+  contour-passes =
+      let n : ℕ = length (contourOf L f) in
+      let most = until-passes (contourPass L f) n limit (unsmoothed (contourPass L f) n t) in
+      rw (contour-is L limit t f) (omega (arith, most .0), λ y. omega (arith, most .1 y))

@@ -1,25 +1,23 @@
--- What a loop over all contours cites that makes a pass: the invariant `PartPassed`, the bound of the total, and the next turn's.
-use mathlib.Core.Path.{_≡_, sym, _∙_, ap, subst}
+-- Contours smoothed one after the other: that nothing is removed and the limit holds, and what a loop over them cites: the invariant
+-- `PartSmoothed`, the bound of the total, the next turn's, and the end.
+use mathlib.Core.Path.{_≡_, refl, sym, _∙_, ap, subst}
 use mathlib.Core.Bool.{true, false}
-use mathlib.Core.List.{List, [], _∷_, map, foldl}
-use Prim.Native.Nat.{ℕ, _+_, _≤_}
+use mathlib.Core.List.{List, [], _∷_, map, flatten, foldl}
+use Prim.Native.Nat.{ℕ, _+_, _*_, _≤_}
 use native.Mathlib.Omega.{arith}
+use lib.ListN.{length, length-append}
 use Rattle.grid.specs.Layer.{Layer}
 use Rattle.grid.specs.Questions.{Sound}
 use Rattle.grid.specs.declared.edge.Edge.{Edge}
-use Rattle.contour.specs.Walk.{firstsFrom}
-use Rattle.contour.specs.Contours.{walkOf, contourOf}
+use Rattle.contour.specs.Contours.{contourOf, firstSticks}
 use Rattle.contour.specs.Sets.{FirstSet}
 use Rattle.contour.specs.Cursors.{left, Placed, Opened, Moved}
 use Rattle.contour.specs.declared.cursor.Cursor.{Cursor}
-use Rattle.contour.proofs.Members.{on-one}
-use Rattle.contour.proofs.Sticks.{laws}
 use Rattle.contour.proofs.Cursors.{here-stick, here-left, none-left, fold-turn, fold-end}
 use Rattle.table.proofs.AllKept.{AllKept, passes-entries, passes-all-kept}
-use Rattle.smooth.specs.Smooth.{Pass, passed, passContour, pass, Smoothable, PassableFrom}
-use Rattle.smooth.proofs.Walking.{visits-grow}
-use Rattle.smooth.proofs.Passes.{AllSticks, passContour-is, passContour-kept, pass-is}
-use Rattle.smooth.proofs.Sizes.{total-most}
+use Rattle.smooth.specs.Smooth.{mostTotal, Smoothed, noContour, withContour, smoothContour, smooth, Smoothable, SmoothableAt}
+use Rattle.smooth.proofs.Passes.{Kept, contour-kept}
+use Rattle.smooth.proofs.Sizes.{vertices-most}
 
 pub kept-smoothable : {L : Layer} {t : List ℕ} → Sound L → AllKept L t → Smoothable L t
 kept-smoothable {L} {t} sound kept =
@@ -30,63 +28,70 @@ kept-smoothable {L} {t} sound kept =
       all-kept = passes-all-kept L t kept sound;
     }
 
--- a total only grows
-contours-grow : (L : Layer) (cs : List (List Edge)) (s : Pass) → s .total ≤ foldl (passContour L) s cs .total
-contours-grow L [] s = omega arith
-contours-grow L (c ∷ cs) s =
-    omega
-    (arith, contours-grow L cs (passContour L s c), visits-grow L c s, ap (λ (p : Pass). p .total) (passContour-is L s c))
+-- one contour more
+abbrev pub smoothNext : Layer → ℕ → Smoothed → Edge → Smoothed
+smoothNext L limit s f = withContour s (smoothContour L limit (s .table) f)
 
--- The pass stands at a cursor with the table t and the total so far: the pass over the contours that are left gives that over all of them.
-pub record PartPassed (L : Layer) (t₀ t : List ℕ) (c : Cursor) (total : ℕ) : Type 0 where
+pub smooth-is : (L : Layer) (limit : ℕ) (t : List ℕ) → smooth L limit t ≡ foldl (smoothNext L limit) (noContour t) (firstSticks L)
+unfolding smooth
+smooth-is L limit t = refl
+
+-- how many sticks the contours of some first sticks have
+abbrev pub sticksOf : Layer → List Edge → ℕ
+sticksOf L l = length (flatten (map (contourOf L) l))
+
+-- Smoothing stands at a cursor: smoothing the contours that are left, on top of what is done, smooths the layer.
+pub record PartSmoothed (L : Layer) (limit : ℕ) (t₀ : List ℕ) (s : Smoothed) (c : Cursor) : Type 0 where
   pub placed : Placed L c
-  pub kept : AllKept L t
-  pub still : foldl (passContour L) (passed t total) (map (contourOf L) (left L c)) ≡ pass L t₀
+  pub kept : AllKept L (s .table)
+  pub room : s .total + 254 * sticksOf L (left L c) ≤ mostTotal
+  pub still : foldl (smoothNext L limit) s (left L c) ≡ smooth L limit t₀
 
-pub passing-start : {L : Layer} {t : List ℕ} {c : Cursor} → Opened L c → AllKept L t → PartPassed L t t c 0
-passing-start {L} {t} o kept =
+pub smoothing-start : {L : Layer} {limit : ℕ} {t : List ℕ} {c : Cursor} → Sound L → Opened L c → AllKept L t → PartSmoothed L limit t (noContour t) c
+smoothing-start {L} {limit} {t} sound o kept =
     record {
       placed = o .placed;
       kept = kept;
-      still = ap (λ (l : List Edge). foldl (passContour L) (passed t 0) (map (contourOf L) l)) (o .left) ∙ sym (pass-is L t);
+      room = omega (arith, vertices-most sound, ap (sticksOf L) (o .left));
+      still = ap (foldl (smoothNext L limit) (noContour t)) (o .left) ∙ sym (smooth-is L limit t);
     }
 
-module _ {L : Layer} {s : List ℕ} (set : FirstSet L s) {t₀ t : List ℕ} {c : Cursor} {total : ℕ} (g : PartPassed L t₀ t c total) where
-  pub passing-end : c .more ≡ false → passed t total ≡ pass L t₀
-  passing-end over =
-      fold-end (passContour L) (passed t total) (pass L t₀) (ap (map (contourOf L)) (none-left set (g .placed) over)) (g .still)
+module _ {L : Layer} {set : List ℕ} (firsts : FirstSet L set) {limit : ℕ} {t₀ : List ℕ} {s : Smoothed} {c : Cursor} (g : PartSmoothed L limit t₀ s c) where
+  pub smoothing-end : c .more ≡ false → s ≡ smooth L limit t₀
+  smoothing-end over = fold-end (smoothNext L limit) s (smooth L limit t₀) (none-left firsts (g .placed) over) (g .still)
 
   module _ (more : c .more ≡ true) where
-    sticks : AllSticks L (contourOf L (c .stick))
-    sticks e o = on-one (walkOf L) (laws L (set .sound)) (c .stick) e (here-stick set (g .placed) more) o
+    -- the contour at the cursor can be smoothed
+    pub smoothing-here : SmoothableAt L (s .table) (c .stick)
+    smoothing-here = record { table = kept-smoothable (firsts .sound) (g .kept); stick = here-stick firsts (g .placed) more }
 
-    -- the contour at the cursor can be passed: its total is no more than that of the whole pass
-    pub passing-here : AllKept L t₀ → PassableFrom L t (c .stick) total
-    passing-here kept₀ =
-        let later =
-        fold-turn (passContour L) (passed t total) (pass L t₀) (ap (map (contourOf L)) (here-left set (g .placed) more)) (g .still) in
-        record {
-          table = kept-smoothable (set .sound) (g .kept);
-          stick = here-stick set (g .placed) more;
-          fits =
-              omega (
-                arith,
-                contours-grow L (map (contourOf L) (firstsFrom (walkOf L) (c .number + 1)))
-                    (passContour L (passed t total) (contourOf L (c .stick))),
-                ap (λ (p : Pass). p .total) later,
-                total-most (set .sound) kept₀,
-              );
-        }
+    -- r is what the code finds of it
+    module _ {r : Smoothed} (found : r ≡ smoothContour L limit (s .table) (c .stick)) where
+      found-kept : Kept (firsts .sound) (c .stick) (here-stick firsts (g .placed) more) r
+      found-kept = rw found (contour-kept (firsts .sound) (c .stick) (here-stick firsts (g .placed) more) limit (g .kept))
 
-    pub passing-turn : {c′ : Cursor} {t′ : List ℕ} {total′ : ℕ} → Moved L c c′
-        → passed t′ total′ ≡ passContour L (passed t total) (contourOf L (c .stick)) → PartPassed L t₀ t′ c′ total′
-    passing-turn {c′} m is =
-        record {
-          placed = m .placed;
-          kept =
-              subst (λ (p : Pass). AllKept L (p .table)) (sym is)
-              (passContour-kept (set .sound) (contourOf L (c .stick)) sticks (passed t total) (g .kept));
-          still =
-              ap (λ (p : Pass). foldl (passContour L) p (map (contourOf L) (left L c′))) is
-              ∙ fold-turn (passContour L) (passed t total) (pass L t₀) (ap (map (contourOf L)) (m .left)) (g .still);
-        }
+      room-left : (l : List Edge) → left L c ≡ c .stick ∷ l → s .total + r .total + 254 * sticksOf L l ≤ mostTotal
+      unfolding flatten
+      room-left l e =
+          omega (
+            arith,
+            g .room,
+            ap (sticksOf L) e,
+            length-append (contourOf L (c .stick)) (flatten (map (contourOf L) l)),
+            found-kept .total-most,
+          )
+
+      -- so the sum of the totals fits
+      pub smoothing-most : s .total + r .total ≤ mostTotal
+      smoothing-most = omega (arith, room-left _ (here-left firsts (g .placed) more))
+
+      pub smoothing-turn : {c′ : Cursor} → Moved L c c′ → PartSmoothed L limit t₀ (withContour s r) c′
+      smoothing-turn {c′} m =
+          record {
+            placed = m .placed;
+            kept = found-kept .kept;
+            room = room-left (left L c′) (m .left);
+            still =
+                ap (λ (x : Smoothed). foldl (smoothNext L limit) (withContour s x) (left L c′)) found
+                ∙ fold-turn (smoothNext L limit) s (smooth L limit t₀) (m .left) (g .still);
+          }

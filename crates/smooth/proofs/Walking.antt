@@ -17,7 +17,7 @@ use Rattle.step.proofs.Walks.{next-stick, prev-stick, prev-next}
 use Rattle.contour.specs.Walk.{path, rest}
 use Rattle.contour.specs.Contours.{walkOf, contourOf, sameEdge}
 use Rattle.contour.proofs.Orbit.{number-inj}
-use Rattle.contour.proofs.Loop.{Due, start, due-one, due-next, turn, shorter, last}
+use Rattle.contour.proofs.Loop.{Due, start, due-one, due-next, rest-more, rest-last, turn, shorter, last}
 use Rattle.contour.proofs.Sticks.{laws, stick-in}
 use Rattle.chord.specs.Points.{Position, position}
 use Rattle.chord.specs.Crossing.{distance}
@@ -32,8 +32,8 @@ use Rattle.table.proofs.AllKept.{AllKept, all-kept-of}
 use Rattle.drawn.specs.Drawn.{vertex}
 use Rattle.drawn.proofs.Runs.{in-grid-near}
 use Rattle.offset.specs.Offset.{newOffset}
-use Rattle.smooth.specs.Smooth.{smoothedAt, Pass, passed, visit, passContour, Smoothable}
-use Rattle.smooth.specs.Visit.{offsetOf, Visitable, Visited}
+use Rattle.smooth.specs.Smooth.{smoothedAt, Pass, passed, visit, passContour, contourPass, Smoothable}
+use Rattle.smooth.specs.Visit.{offsetOf, Visitable, Visited, PassMade}
 use Rattle.smooth.specs.declared.pass.Stepped.{Stepped}
 use Rattle.smooth.proofs.Steps.{visit-sum, visit-kept, visit-here, neighbours-around}
 
@@ -89,20 +89,21 @@ pub record NextVertex (L : Layer) (t : List ℕ) (e e′ : Edge) (k′ : ℕ) (q
   pub q-is : q ≡ position e′ (offsetOf t k′)
   pub q-near : Near q
 
--- A walk round the contour of f, begun with the table t₀ and the total n₀, stands with t and n at e, whose entry is at k, the previous
--- vertex being at p: visiting what is left, from here, gives the pass over the whole contour.
-pub record PartVisited (L : Layer) (f : Edge) (t₀ : List ℕ) (n₀ : ℕ) (t : List ℕ) (e : Edge) (k : ℕ) (p : Position) (n : ℕ) : Type 0 where
+-- A walk round the contour of f, begun with the table t₀, stands with t and the total n at e, whose entry is at k, the previous vertex being at p,
+-- and v vertices are visited: visiting what is left, from here, gives the pass over the whole contour.
+pub record PartVisited (L : Layer) (f : Edge) (t₀ t : List ℕ) (e : Edge) (k : ℕ) (p : Position) (n v : ℕ) : Type 0 where
   pub due : Due (walkOf L) f e
   pub kept : AllKept L t
   pub place-is : k ≡ number (L .size) e
   pub p-is : p ≡ vertex L t (prev L e)
   pub p-near : Near p
-  pub still : foldl (visit L) (passed t n) (rest (walkOf L) e f) ≡ passContour L (passed t₀ n₀) (contourOf L f)
+  pub still : foldl (visit L) (passed t n) (rest (walkOf L) e f) ≡ contourPass L f t₀
+  pub in-all : v + length (rest (walkOf L) e f) ≡ length (contourOf L f)
 
 -- the walk starts, with the vertex of the stick x before it
-pub visits-start : {L : Layer} {t : List ℕ} {f x : Edge} {k n : ℕ} {p : Position} → LentAt L t f → AllKept L t → k ≡ number (L .size) f
+pub visits-start : {L : Layer} {t : List ℕ} {f x : Edge} {k : ℕ} {p : Position} → LentAt L t f → AllKept L t → k ≡ number (L .size) f
     → x ≡ prev L f → p ≡ position x (offsetOf t (number (L .size) x)) → Near p
-    → PartVisited L f t n t f k p n
+    → PartVisited L f t t f k p 0 0
 unfolding passContour offsetAt
 visits-start {L} {t} {f} given kept place-is x-is p-is near =
     record {
@@ -112,9 +113,10 @@ visits-start {L} {t} {f} given kept place-is x-is p-is near =
       p-is = p-is ∙ ap (vertex L t) x-is;
       p-near = near;
       still = refl;
+      in-all = omega arith;
     }
 
-module _ {L : Layer} (sound : Sound L) {f e : Edge} {t₀ t : List ℕ} {n₀ k n : ℕ} {p : Position} (g : PartVisited L f t₀ n₀ t e k p n) where
+module _ {L : Layer} (sound : Sound L) {f e : Edge} {t₀ t : List ℕ} {k n v : ℕ} {p : Position} (g : PartVisited L f t₀ t e k p n v) where
   pub visits-here : LentAt L t e
   visits-here = record { sound = sound; exact = g .kept .whole; stick = due-one (walkOf L) (laws L sound) f e (g .due) }
 
@@ -146,19 +148,24 @@ module _ {L : Layer} (sound : Sound L) {f e : Edge} {t₀ t : List ℕ} {n₀ k 
     apart : k′ ≢ number (L .size) f → sameEdge e′ f ≡ false
     apart differ = other-number L sound e′ f (there .stick) (g .due .start-one) (λ i. differ (ahead .place-is ∙ i))
 
+    -- one vertex more is visited
+    pub visits-few : v + 1 ≤ length (contourOf L f)
+    unfolding rest
+    visits-few = omega (arith, g .in-all)
+
     pub visits-less : k′ ≢ number (L .size) f → length (rest (walkOf L) e′ f) < length (rest (walkOf L) e f)
     visits-less differ = shorter (walkOf L) (laws L sound) f e e′ (g .due) (ahead .stick-is) (apart differ)
 
     -- the step is that of the rule
-    module _ {r : Stepped} {t′ : List ℕ} (v : Visited t k p q e r t′) where
+    module _ {r : Stepped} {t′ : List ℕ} (step : Visited t k p q e r t′) where
       smoothed : r .offset ≡ smoothedAt L t e
-      smoothed = v .offset ∙ (λ i. newOffset (g .p-is i) (next-is i) e (old-is i))
+      smoothed = step .offset ∙ (λ i. newOffset (g .p-is i) (next-is i) e (old-is i))
 
       step-is : passed t′ (n + r .change) ≡ visit L (passed t n) e
       unfolding visit
       step-is =
-          let slid = v .table ∙ (λ i. set t (g .place-is i) (encoded (Kept (smoothed i)))) in
-          let change = v .change ∙ (λ i. distance (old-is i) (smoothed i)) in
+          let slid = step .table ∙ (λ i. set t (g .place-is i) (encoded (Kept (smoothed i)))) in
+          let change = step .change ∙ (λ i. distance (old-is i) (smoothed i)) in
           λ i. passed (slid i) (n + change i)
 
       pub visited-kept : AllKept L t′
@@ -171,7 +178,7 @@ module _ {L : Layer} (sound : Sound L) {f e : Edge} {t₀ t : List ℕ} {n₀ k 
           smoothed ∙ sym (visit-here sound (passed t n) (g .kept) e (visits-here .stick))
           ∙ sym (ap (λ (s : Pass). offsetAt L (s .table) e) step-is)
 
-      pub total-within : n + r .change ≤ passContour L (passed t₀ n₀) (contourOf L f) .total
+      pub total-within : n + r .change ≤ contourPass L f t₀ .total
       total-within =
           omega (
             arith,
@@ -181,7 +188,7 @@ module _ {L : Layer} (sound : Sound L) {f e : Edge} {t₀ t : List ℕ} {n₀ k 
           )
 
       pub visits-turn : {p′ : Position} → p′ ≡ position e (r .offset) → Near p′ → k′ ≢ number (L .size) f
-          → PartVisited L f t₀ n₀ t′ e′ k′ p′ (n + r .change)
+          → PartVisited L f t₀ t′ e′ k′ p′ (n + r .change) (v + 1)
       visits-turn p′-is near differ =
           let back : prev L e′ ≡ e = ap (prev L) (ahead .stick-is) ∙ prev-next L sound e (visits-here .stick) in
           record {
@@ -193,9 +200,13 @@ module _ {L : Layer} (sound : Sound L) {f e : Edge} {t₀ t : List ℕ} {n₀ k 
             still =
                 ap (λ (s : Pass). foldl (visit L) s (rest (walkOf L) e′ f)) step-is
                 ∙ turn (walkOf L) (laws L sound) f e e′ (g .due) (ahead .stick-is) (apart differ) (visit L) (passed t n) _ (g .still);
+            in-all = omega (arith, g .in-all, ap length (rest-more (walkOf L) (laws L sound) f e e′ (g .due) (ahead .stick-is) (apart differ)));
           }
 
-      pub visits-last : k′ ≡ number (L .size) f → passed t′ (n + r .change) ≡ passContour L (passed t₀ n₀) (contourOf L f)
+      pub visits-last : k′ ≡ number (L .size) f → PassMade L t₀ f (record { total = n + r .change; vertices = v + 1 }) t′
       visits-last home =
           let same = same-number L sound e′ f (there .stick) (g .due .start-one) (sym (ahead .place-is) ∙ home) in
-          step-is ∙ last (walkOf L) (laws L sound) f e e′ (g .due) (ahead .stick-is) same (visit L) (passed t n) _ (g .still)
+          record {
+            pass-is = step-is ∙ last (walkOf L) (laws L sound) f e e′ (g .due) (ahead .stick-is) same (visit L) (passed t n) _ (g .still);
+            vertices-is = omega (arith, g .in-all, ap length (rest-last (walkOf L) (laws L sound) f e e′ (g .due) (ahead .stick-is) same));
+          }

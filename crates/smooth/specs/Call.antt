@@ -10,8 +10,8 @@ use Rattle.smooth.specs.declared.smoothing.Smoothing.{Smoothing}
 use Rattle.smooth.specs.declared.smoothing.Smoothing.the-variants.{Done, Refused}
 use Rattle.smooth.specs.Smooth.{Smoothed, smooth}
 
--- the number of a refusal and its place, both 0 where the call is done; "The answer is passes, last total (0 if none) and settled or limit";
--- and the table at exit
+-- the number of a refusal and its place, both 0 where the call is done; "the largest number of passes of any contour, the sum of their last
+-- totals, and settled if all are" (Note 3), else limit; and the table at exit
 pub record Outcome : Type 0 where
   pub refusal : ℕ
   pub place : ℕ

@@ -1,5 +1,6 @@
-// The public call Smooth: passes over all contours, each vertex slid by two fifths of the way to the segment between its neighbours.
+// The public call Smooth: passes over each contour in turn, each vertex slid by two fifths of the way to the segment between its neighbours.
 mod pass;
+mod settling;
 mod smoothing;
 
 pub use smoothing::Smoothing;

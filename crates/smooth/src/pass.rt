@@ -1,9 +1,6 @@
-// A pass: the step at one vertex, along one contour, and over all contours.
-use bitset::EdgeSet;
+// A pass: the step at one vertex, and along one contour.
 use chord::Position;
 use chord::position_of;
-use contour::first_contour;
-use contour::next_contour;
 use drawn::vertex_at;
 use grid::Edge;
 use grid::Size;
@@ -16,11 +13,9 @@ use table::encoded_of;
 use table::offset_of;
 ghost use mathlib.Core.Path.{_≡_};
 ghost use Rattle.grid.specs.Layer.{layerOf};
-ghost use Rattle.contour.specs.Contours.{contourOf};
-ghost use Rattle.contour.specs.Sets.{FirstSet};
 ghost use Rattle.chord.specs.Crossing.{distance};
-ghost use Rattle.smooth.specs.Smooth.{passed, passContour, pass, Smoothable, PassableFrom};
-ghost use Rattle.smooth.specs.Visit.{Visitable, Visited};
+ghost use Rattle.smooth.specs.Smooth.{SmoothableAt};
+ghost use Rattle.smooth.specs.Visit.{Visitable, Visited, PassMade};
 
 // What a step gives: the new offset, and the absolute change.
 struct Stepped {
@@ -52,23 +47,31 @@ fn visit(table: &mut [u16], at: usize, e: Edge, p: Position, q: Position) -> Ste
     }
 }
 
-// A pass over the contour that starts at `first`, from the total of the pass so far. The previous vertex's position, the stick and
-// the number of its entry go along, so that a vertex costs one step of the walk.
-fn pass_contour(size: Size, bitmap: &[u8], table: &mut [u16], first: Edge, total: usize) -> usize
-    requires { ⌜ PassableFrom (layerOf size (now bitmap)) (now table) first total ⌝ }
-    ensures { λ r. ⌜ passed (now (table .exit)) r ≡ passContour (layerOf size (now (bitmap .entry))) (passed (now (table .entry)) total) (contourOf (layerOf size (now (bitmap .entry))) first) ⌝ }
+// What a pass over a contour gives: the sum of the absolute changes, and how many vertices were visited.
+pub struct PassCounts {
+    pub total: usize,
+    pub vertices: usize,
+}
+
+// A pass over the contour that starts at `first`. The previous vertex's position, the stick and the number of its entry go along, so that a vertex
+// costs one step of the walk.
+pub fn pass_contour(size: Size, bitmap: &[u8], table: &mut [u16], first: Edge) -> PassCounts
+    requires { ⌜ SmoothableAt (layerOf size (now bitmap)) (now table) first ⌝ }
+    ensures { λ r. ⌜ PassMade (layerOf size (now (bitmap .entry))) (now (table .entry)) first r (now (table .exit)) ⌝ }
 {
     let start = number_of(size, first);
     let mut p = vertex_at(size, table, previous_stick(size, bitmap, first));
     let mut e = first;
     let mut at = start;
-    let mut sum = total;
+    let mut total: usize = 0;
+    let mut vertices: usize = 0;
     loop {
         let next = next_stick(size, bitmap, e);
         let after = number_of(size, next);
         let q = position_of(next, offset_of(table[after]));
         let moved = visit(table, at, e, p, q);
-        sum += moved.change;
+        total += moved.change;
+        vertices += 1;
         p = position_of(e, moved.offset);
         e = next;
         at = after;
@@ -76,20 +79,5 @@ fn pass_contour(size: Size, bitmap: &[u8], table: &mut [u16], first: Edge, total
             break;
         }
     }
-    sum
-}
-
-// A pass over all contours, by the set of first sticks. Its total.
-pub fn pass_layer(size: Size, bitmap: &[u8], table: &mut [u16], set: &EdgeSet) -> usize
-    requires { ⌜ Smoothable (layerOf size (now bitmap)) (now table) ⌝ }
-    requires { ⌜ FirstSet (layerOf size (now bitmap)) (now set) ⌝ }
-    ensures { λ r. ⌜ passed (now (table .exit)) r ≡ pass (layerOf size (now (bitmap .entry))) (now (table .entry)) ⌝ }
-{
-    let mut total: usize = 0;
-    let mut at = first_contour(size, bitmap, set);
-    while at.more {
-        total = pass_contour(size, bitmap, table, at.stick, total);
-        at = next_contour(size, bitmap, set, at);
-    }
-    total
+    PassCounts { total, vertices }
 }

@@ -2,8 +2,8 @@
 use mathlib.Core.Path.{refl}
 use borrow.Author.Needs.{needs}
 use Rattle.smooth.specs.Smooth.{isSettled}
-use Rattle.smooth.proofs.smoothing.is_settled.Statement.{statement}
-use Rattle.smooth.proofs.smoothing.is_settled.Tie as tie
+use Rattle.smooth.proofs.settling.is_settled.Statement.{statement}
+use Rattle.smooth.proofs.settling.is_settled.Tie as tie
 
 returns : tie.Need-returns
 unfolding isSettled
