@@ -37,6 +37,12 @@ use Rattle.smooth.specs.Smooth.{
 use Rattle.smooth.proofs.Steps.{visit-table, visit-sum, visit-elsewhere, visit-length}
 use Rattle.smooth.proofs.Passes.{contour-is, further-is, until-none, until-settled, until-more, until-keeps}
 
+-- two results of smoothing that differ in their tables at most
+pub record SameAnswer (s r : Smoothed) : Type 0 where
+  pub same-passes : s .passes ≡ r .passes
+  pub same-total : s .total ≡ r .total
+  pub same-settled : s .settled ≡ r .settled
+
 module _ (L : Layer) (sound : Sound L) where
   -- ---- what a pass over a list of sticks changes
 
@@ -105,12 +111,10 @@ module _ (L : Layer) (sound : Sound L) where
           (λ s h. rw (further-is (contourPass L f) vertices s) (passContour-elsewhere (contourOf L f) (passed (s .table) 0) k off ∙ h))
           limit (unsmoothed (contourPass L f) vertices t) refl)
 
-    -- two places of smoothing whose tables agree on the contour, with the same figures
+    -- on tables that agree on the contour, with the same answer
     pub record SameSmoothing (s r : Smoothed) : Type 0 where
       pub agree : Agree L f (s .table) (r .table)
-      pub same-passes : s .passes ≡ r .passes
-      pub same-total : s .total ≡ r .total
-      pub same-settled : s .settled ≡ r .settled
+      pub answer : SameAnswer s r
 
     further-agree : (s r : Smoothed) → SameSmoothing s r
         → SameSmoothing (further (contourPass L f) vertices s) (further (contourPass L f) vertices r)
@@ -120,9 +124,12 @@ module _ (L : Layer) (sound : Sound L) where
         rw (further-is (contourPass L f) vertices s, further-is (contourPass L f) vertices r)
         (record {
           agree = p .0;
-          same-passes = omega (arith, a .same-passes);
-          same-total = same;
-          same-settled = ap (λ (n : ℕ). isSettled n vertices) same;
+          answer =
+              record {
+                same-passes = omega (arith, a .answer .same-passes);
+                same-total = same;
+                same-settled = ap (λ (n : ℕ). isSettled n vertices) same;
+              };
         })
 
     until-agree : (n : ℕ) (s r : Smoothed) → SameSmoothing s r
@@ -132,19 +139,19 @@ module _ (L : Layer) (sound : Sound L) where
         (λ y.
         rw (
           until-settled (contourPass L f) vertices (suc n) s y,
-          until-settled (contourPass L f) vertices (suc n) r (sym (a .same-settled) ∙ y),
+          until-settled (contourPass L f) vertices (suc n) r (sym (a .answer .same-settled) ∙ y),
         ) a)
         (λ y.
         rw (
           until-more (contourPass L f) vertices n s y,
-          until-more (contourPass L f) vertices n r (sym (a .same-settled) ∙ y),
+          until-more (contourPass L f) vertices n r (sym (a .answer .same-settled) ∙ y),
         ) (until-agree n _ _ (further-agree s r a)))
 
-    -- from tables that agree on the contour its smoothing gives tables that do, with the same figures: it reads no entry off the contour
+    -- from tables that agree on the contour its smoothing gives tables that do, with the same answer: it reads no entry off the contour
     pub smoothContour-agree : (limit : ℕ) {t u : List ℕ} → Agree L f t u → SameSmoothing (smoothContour L limit t f) (smoothContour L limit u f)
     smoothContour-agree limit {t} {u} a =
         rw (contour-is L limit t f, contour-is L limit u f)
-        (until-agree limit _ _ (record { agree = a; same-passes = refl; same-total = refl; same-settled = refl }))
+        (until-agree limit _ _ (record { agree = a; answer = record { same-passes = refl; same-total = refl; same-settled = refl } }))
 
     -- so smoothing a contour is a step local to it
     pub smoothContour-local : (limit : ℕ) → Local L f (λ t. smoothContour L limit t f .table)

@@ -66,7 +66,8 @@ module _ (w : Walk) (law : Laws w) where
     pub firsts-with : P true (firsts w)
     unfolding occurrences
     firsts-with =
-        firsts-induct w Kept (record { without = λ e. none; once = λ e. absurd (omega arith) }) kept-more .once (firsts-once w law x ∙ ap asNumber is-first)
+        firsts-induct w Kept (record { without = λ e. none; once = λ e. absurd (omega arith) }) kept-more .once
+        (firsts-once w law x ∙ ap asNumber is-first)
 
   -- Two tests
 
