@@ -24,11 +24,11 @@ use Rattle.contour.proofs.First.{first-one}
 use Rattle.contour.proofs.Members.{on-one}
 use Rattle.contour.proofs.Orbit.{same-true, same-false}
 use Rattle.contour.proofs.Sticks.{laws, same-self}
+use Rattle.contour.proofs.Orders.{first-sticks-once}
 use Rattle.contour.proofs.Marking.{bits-ok, bits-kept, bits-set}
 use Rattle.contour.proofs.Scans.{Kept, marks, horizontal-number}
 use Rattle.winding.specs.Turns.{east, isBore, isOn, firstOf, onBore}
 use Rattle.winding.proofs.Contours.{on-is, off, on-only, on-firstOf, firstOf-first}
-use Rattle.winding.proofs.Firsts.{firsts-once}
 use Rattle.nesting.specs.Bores.{markBore, BoreSet}
 
 -- the contour of e is none of those that are left
@@ -60,7 +60,7 @@ module _ {L : Layer} (sound : Sound L) where
     where
       undone : (e : Edge) → isStick L e ≡ true → done L c e ≡ false
       undone e stick =
-          let once = firsts-once (walkOf L) (laws L sound) (firstOf L e) (firstOf-first sound e stick) in
+          let once = first-sticks-once L sound (firstOf L e) ∙ ap asNumber (firstOf-first sound e stick) in
           ap (λ (n : ℕ). eqb n 0) (ap (occurrences (walkOf L) (firstOf L e)) (opened .left) ∙ once)
 
   -- One contour marked: the bits of its horizontal sticks are set, and no other is changed
@@ -118,7 +118,7 @@ module _ {L : Layer} (sound : Sound L) where
       -- e is on f: f is done now, and the bit, which was clear, says whether it is a bore
       own-done : g ≡ f → done L c′ e ≡ true
       own-done own =
-          let once = firsts-once (walkOf L) (laws L sound) f is-first in
+          let once = first-sticks-once L sound f ∙ ap asNumber is-first in
           let none : occurrences (walkOf L) f (left L c′) ≡ 0 =
           omega (arith, counts f, m .most f, ap asNumber (same-self f)) in
           ap (λ (y : Edge). eqb (occurrences (walkOf L) y (left L c′)) 0) own ∙ ap (λ (n : ℕ). eqb n 0) none

@@ -5,6 +5,7 @@ pub mod Neighbours
 pub mod Steps
 pub mod Passes
 pub mod Locality
+pub mod Orders
 pub mod Sizes
 pub mod Walking
 pub mod Rounds

@@ -1,13 +1,14 @@
--- Contours do not touch each other's entries: a pass over one contour changes no entry of another, and what it does depends on its own entries
+-- Contours do not touch each other's entries: smoothing one changes no entry of another, and what it does and answers depends on its own entries
 -- alone.
-use mathlib.Core.Path.{_≡_, refl, _∙_, ap}
+use mathlib.Core.Path.{_≡_, refl, sym, _∙_, ap}
 use mathlib.Core.Logic.{_≢_}
 use mathlib.Core.Bool.{true}
 use mathlib.Core.List.{List, [], _∷_}
-use Prim.Native.Nat.{ℕ, _+_, _<_}
+use Prim.Native.Nat.{ℕ, zero, suc, _+_, _<_}
 use native.Mathlib.Omega.{arith}
 use lib.ListN.{length, getD}
 use Rattle.arith.specs.Booleans.{asNumber}
+use Rattle.arith.proofs.Booleans.{both-sides}
 use Rattle.grid.specs.Layer.{Layer}
 use Rattle.grid.specs.Edges.{number, isStick}
 use Rattle.step.specs.Walk.{next, prev}
@@ -16,10 +17,31 @@ use Rattle.grid.specs.declared.edge.Edge.{Edge}
 use Rattle.contour.specs.Walk.{occurrences, first, OnContour}
 use Rattle.contour.specs.Contours.{walkOf, contourOf}
 use Rattle.contour.proofs.Members.{on-next, on-prev}
+use Rattle.contour.proofs.First.{first-one}
 use Rattle.contour.proofs.Sticks.{laws}
-use Rattle.table.proofs.Local.{entry, Agree, Local, same-offset, stored-agree, off-other}
-use Rattle.smooth.specs.Smooth.{smoothedAt, Pass, visit, passContour}
+use Rattle.table.proofs.Local.{entry, Agree, Off, Local, same-offset, stored-agree, off-other}
+use Rattle.smooth.specs.Smooth.{
+  smoothedAt,
+  Pass,
+  passed,
+  visit,
+  passContour,
+  contourPass,
+  isSettled,
+  Smoothed,
+  further,
+  until,
+  unsmoothed,
+  smoothContour,
+}
 use Rattle.smooth.proofs.Steps.{visit-table, visit-sum, visit-elsewhere, visit-length}
+use Rattle.smooth.proofs.Passes.{contour-is, further-is, until-none, until-settled, until-more, until-keeps}
+
+-- two results of smoothing that differ in their tables at most
+pub record SameAnswer (s r : Smoothed) : Type 0 where
+  pub same-passes : s .passes ≡ r .passes
+  pub same-total : s .total ≡ r .total
+  pub same-settled : s .settled ≡ r .settled
 
 module _ (L : Layer) (sound : Sound L) where
   -- ---- what a pass over a list of sticks changes
@@ -37,12 +59,6 @@ module _ (L : Layer) (sound : Sound L) where
   passContour-elsewhere (e ∷ c) s k n =
       passContour-elsewhere c (visit L s e) k (λ f o. n f (omega arith))
       ∙ visit-elsewhere L s e k (n e (omega (arith, ap asNumber (laws L sound .same-self e))))
-
-  -- so a pass over one contour changes no entry of another
-  pub other-contour : (f g : Edge) → first (walkOf L) f ≡ true → first (walkOf L) g ≡ true → f ≢ g
-      → (s : Pass) (e : Edge) → OnContour (walkOf L) g e → entry L (passContour L s (contourOf L f) .table) e ≡ entry L (s .table) e
-  other-contour f g first-f first-g differ s e on =
-      passContour-elsewhere (contourOf L f) s (number (L .size) e) (off-other L sound f g first-f first-g differ e on)
 
   -- ---- what it reads
 
@@ -74,12 +90,81 @@ module _ (L : Layer) (sound : Sound L) where
         let later = passContour-agree c (λ g o. h g (omega arith)) (visit L s e) (visit L r e) (visit-agree s r a e on) in
         (later .0, omega (arith, later .1, visit-change s r a e on))
 
-    -- so a pass over a contour, counted from any total on, is a step local to it
-    pub passContour-local : (n : ℕ) → Local L f (λ t. passContour L (record { table = t; total = n }) (contourOf L f) .table)
-    passContour-local n =
+    -- ---- the smoothing of the contour: as many passes as it takes
+
+    abbrev vertices : ℕ
+    vertices = length (contourOf L f)
+
+    module _ (limit : ℕ) (t : List ℕ) where
+      pub smoothContour-length : length (smoothContour L limit t f .table) ≡ length t
+      smoothContour-length =
+          rw (contour-is L limit t f)
+          (until-keeps (contourPass L f) vertices (λ s. length (s .table) ≡ length t)
+          (λ s h. rw (further-is (contourPass L f) vertices s) (passContour-length (contourOf L f) (passed (s .table) 0) ∙ h))
+          limit (unsmoothed (contourPass L f) vertices t) refl)
+
+      -- it changes no entry off the contour
+      pub smoothContour-elsewhere : (k : ℕ) → Off L f k → getD (smoothContour L limit t f .table) k 0 ≡ getD t k 0
+      smoothContour-elsewhere k off =
+          rw (contour-is L limit t f)
+          (until-keeps (contourPass L f) vertices (λ s. getD (s .table) k 0 ≡ getD t k 0)
+          (λ s h. rw (further-is (contourPass L f) vertices s) (passContour-elsewhere (contourOf L f) (passed (s .table) 0) k off ∙ h))
+          limit (unsmoothed (contourPass L f) vertices t) refl)
+
+    -- on tables that agree on the contour, with the same answer
+    pub record SameSmoothing (s r : Smoothed) : Type 0 where
+      pub agree : Agree L f (s .table) (r .table)
+      pub answer : SameAnswer s r
+
+    further-agree : (s r : Smoothed) → SameSmoothing s r
+        → SameSmoothing (further (contourPass L f) vertices s) (further (contourPass L f) vertices r)
+    further-agree s r a =
+        let p = passContour-agree (contourOf L f) (λ e o. o) (passed (s .table) 0) (passed (r .table) 0) (a .agree) in
+        let same : contourPass L f (s .table) .total ≡ contourPass L f (r .table) .total = omega (arith, p .1) in
+        rw (further-is (contourPass L f) vertices s, further-is (contourPass L f) vertices r)
+        (record {
+          agree = p .0;
+          answer =
+              record {
+                same-passes = omega (arith, a .answer .same-passes);
+                same-total = same;
+                same-settled = ap (λ (n : ℕ). isSettled n vertices) same;
+              };
+        })
+
+    until-agree : (n : ℕ) (s r : Smoothed) → SameSmoothing s r
+        → SameSmoothing (until (contourPass L f) vertices n s) (until (contourPass L f) vertices n r)
+    until-agree zero s r a = rw (until-none (contourPass L f) vertices s, until-none (contourPass L f) vertices r) a
+    until-agree (suc n) s r a = both-sides (s .settled)
+        (λ y.
+        rw (
+          until-settled (contourPass L f) vertices (suc n) s y,
+          until-settled (contourPass L f) vertices (suc n) r (sym (a .answer .same-settled) ∙ y),
+        ) a)
+        (λ y.
+        rw (
+          until-more (contourPass L f) vertices n s y,
+          until-more (contourPass L f) vertices n r (sym (a .answer .same-settled) ∙ y),
+        ) (until-agree n _ _ (further-agree s r a)))
+
+    -- from tables that agree on the contour its smoothing gives tables that do, with the same answer: it reads no entry off the contour
+    pub smoothContour-agree : (limit : ℕ) {t u : List ℕ} → Agree L f t u → SameSmoothing (smoothContour L limit t f) (smoothContour L limit u f)
+    smoothContour-agree limit {t} {u} a =
+        rw (contour-is L limit t f, contour-is L limit u f)
+        (until-agree limit _ _ (record { agree = a; answer = record { same-passes = refl; same-total = refl; same-settled = refl } }))
+
+    -- so smoothing a contour is a step local to it
+    pub smoothContour-local : (limit : ℕ) → Local L f (λ t. smoothContour L limit t f .table)
+    smoothContour-local limit =
         record {
-          same-length = λ t. passContour-length (contourOf L f) (record { table = t; total = n });
-          elsewhere = λ t k off. passContour-elsewhere (contourOf L f) (record { table = t; total = n }) k off;
-          agrees = λ t u a.
-              passContour-agree (contourOf L f) (λ e o. o) (record { table = t; total = n }) (record { table = u; total = n }) a .0;
+          same-length = smoothContour-length limit;
+          elsewhere = smoothContour-elsewhere limit;
+          agrees = λ t u a. smoothContour-agree limit a .agree;
         }
+
+  -- smoothing one contour changes no entry of another
+  pub other-contour : (f g : Edge) → first (walkOf L) f ≡ true → first (walkOf L) g ≡ true → f ≢ g
+      → (limit : ℕ) (t : List ℕ) (e : Edge) → OnContour (walkOf L) g e → entry L (smoothContour L limit t f .table) e ≡ entry L t e
+  other-contour f g first-f first-g differ limit t e on =
+      smoothContour-elsewhere f (first-one (walkOf L) (laws L sound) f first-f) limit t (number (L .size) e)
+      (off-other L sound f g first-f first-g differ e on)

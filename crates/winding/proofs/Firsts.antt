@@ -1,6 +1,6 @@
--- The list of all first elements of a walk: a law holds of it if each first element put in front keeps it, and each stands in it once. From that,
+-- The list of all first elements of a walk: a law holds of it if each first element put in front keeps it. From that, and as each stands in it once,
 -- how many elements pass a test, compared with another.
-use mathlib.Core.Path.{_≡_, refl, sym, ap, subst}
+use mathlib.Core.Path.{_≡_, refl, sym, _∙_, ap, subst}
 use mathlib.Core.Logic.{_≢_}
 use mathlib.Core.Bool.{Bool, true, false}
 use mathlib.Core.List.{List, [], _∷_}
@@ -8,10 +8,11 @@ use Prim.Native.Nat.{ℕ, zero, suc, _+_, _≤_, _<_}
 use native.Mathlib.Omega.{arith}
 use Rattle.arith.specs.Booleans.{asNumber}
 use Rattle.arith.specs.Lists.{each, among}
-use Rattle.arith.proofs.Booleans.{both-sides, one-le}
+use Rattle.arith.proofs.Booleans.{both-sides}
 use Rattle.contour.specs.Walk.{Walk, Laws, occurrences, first, firstsAmong, firsts}
-use Rattle.contour.proofs.Orbit.{same-false, unlike}
-use Rattle.contour.proofs.Contours.{Rising, among-none, among-first, among-other, firsts-rise, firsts-all}
+use Rattle.contour.proofs.Orbit.{unlike}
+use Rattle.contour.proofs.Contours.{among-none, among-first, among-other}
+use Rattle.contour.proofs.Orders.{firsts-once}
 
 at-most : (a b : Bool) → (a ≡ true → b ≡ true) → asNumber a ≤ asNumber b
 at-most true b h = omega (arith, ap asNumber (h refl))
@@ -35,29 +36,9 @@ module _ (w : Walk) where
   firsts-each test h = firsts-induct (λ l. each test l ≡ true) refl (λ x l f e. rw (h x f) e)
 
 module _ (w : Walk) (law : Laws w) where
-  open Walk w using (Element as A, same, number)
+  open Walk w using (Element as A, same)
 
-  -- Each first element stands in the list once
-
-  rise-none : (l : List A) (k : ℕ) (y : A) → Rising w k l → number y < k → occurrences w y l ≡ 0
-  unfolding occurrences
-  rise-none [] k y r h = refl
-  rise-none (x ∷ l) k y r h =
-      let other = same-false w law {x = y} {y = x} (λ e. omega (arith, r .0, ap number e)) in
-      omega (arith, ap asNumber other, rise-none l (number x + 1) y (r .1) (omega (arith, r .0)))
-
-  rise-once : (l : List A) (k : ℕ) (y : A) → Rising w k l → occurrences w y l ≤ 1
-  unfolding occurrences
-  rise-once [] k y r = omega arith
-  rise-once (x ∷ l) k y r =
-      both-sides (same y x)
-      (λ t. omega (arith, one-le (same y x), rise-none l (number x + 1) y (r .1) (omega (arith, ap number (law .same-eq y x t)))))
-      (λ u. omega (arith, ap asNumber u, rise-once l (number x + 1) y (r .1)))
-
-  pub firsts-once : (y : A) → first w y ≡ true → occurrences w y (firsts w) ≡ 1
-  firsts-once y f = omega (arith, firsts-all w law y f, rise-once (firsts w) 0 y (firsts-rise w law))
-
-  -- so a law that speaks of one of them, x, has to be kept by x once; the Boolean says whether x is in the list
+  -- A law that speaks of one of them, x, has to be kept by x once, as it stands once in the list; the Boolean says whether x is in the list
   module _ (x : A) (is-first : first w x ≡ true) (P : Bool → List A → Type 0) (none : P false []) (here : (l : List A) → P false l → P true (x ∷ l))
       (other : (b : Bool) (l : List A) (y : A) → first w y ≡ true → y ≢ x → P b l → P b (y ∷ l)) where
     record Kept (l : List A) : Type 0 where
@@ -85,7 +66,8 @@ module _ (w : Walk) (law : Laws w) where
     pub firsts-with : P true (firsts w)
     unfolding occurrences
     firsts-with =
-        firsts-induct w Kept (record { without = λ e. none; once = λ e. absurd (omega arith) }) kept-more .once (firsts-once x is-first)
+        firsts-induct w Kept (record { without = λ e. none; once = λ e. absurd (omega arith) }) kept-more .once
+        (firsts-once w law x ∙ ap asNumber is-first)
 
   -- Two tests
 
