@@ -11,7 +11,7 @@ use Rattle.contour.specs.Walk.{firstsAmong}
 use Rattle.contour.proofs.Examples.{square}
 use Rattle.table.specs.Entries.{entryOf}
 use Rattle.table.specs.Vertices.{offsetAt}
-use Rattle.smooth.specs.Smooth.{pass, smooth}
+use Rattle.smooth.specs.Smooth.{smooth}
 
 -- "W 3, H 3, inside (1,1)", and the table with these offsets at "entries 2, 7, 3, 10 in contour order"
 abbrev pub single : Layer
@@ -24,8 +24,8 @@ abbrev pub traced : List ℕ
 traced = offsets 128 128 128 128
 
 -- "One pass on it: 179, 179, 77, 77, total 204."
-pub one-pass : pass single traced ≡ record { table = offsets 179 179 77 77; total = 204 }
-unfolding pass firstsAmong number edgeCount edgeAt isStick sample bit next prev xor entryOf offsetAt
+pub one-pass : smooth single 1 traced ≡ record { table = offsets 179 179 77 77; passes = 1; total = 204; settled = false }
+unfolding smooth firstsAmong number edgeCount edgeAt isStick sample bit next prev xor entryOf offsetAt count
 one-pass = refl
 
 -- "Its tenth pass ends at 255, 255, 1, 1, total 0, settled."
@@ -40,11 +40,11 @@ nine-passes = refl
 
 -- "Limit 0: 0 passes, total 0, limit."
 pub no-pass : smooth single 0 traced ≡ record { table = traced; passes = 0; total = 0; settled = false }
-unfolding smooth edgeCount edgeAt isStick sample bit xor count
+unfolding smooth firstsAmong number edgeCount edgeAt isStick sample bit next xor count
 no-pass = refl
 
 -- "No inside sample: 0 passes, settled.", with any limit, 0 too
 pub no-vertices : (limit : ℕ) → smooth (layerOf (square 3) (0 ∷ 0 ∷ 0 ∷ [])) limit (offsets 0 0 0 0) ≡ record { table = offsets 0 0 0 0; passes = 0; total = 0; settled = true }
-unfolding smooth edgeCount edgeAt isStick sample bit xor count
+unfolding smooth firstsAmong edgeCount edgeAt isStick sample bit xor count
 no-vertices zero = refl
 no-vertices (suc limit) = refl

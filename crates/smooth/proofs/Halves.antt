@@ -1,11 +1,13 @@
 -- An exact half never occurs in a smoothing step: 4·v would be an odd whole number, and the segment between vertices of other sides of the two
--- cells beside a stick meets it at no such v. So Smooth is the same wherever a half goes, also with the paper's "a half upward" (specs/Former).
+-- cells beside a stick meets it at no such v. So Smooth is the same wherever a half goes, also with the paper's "a half upward" (specs/Former),
+-- and so is the paper's rule.
 use mathlib.Core.Path.{_≡_, refl, sym, _∙_, ap}
 use mathlib.Core.Bool.{true, false}
 use mathlib.Core.List.{List, [], _∷_, foldl}
 use Prim.Native.Nat.{ℕ, zero, suc, _+_, _*_, _/_, _<_}
 use native.Mathlib.Decide.{decLt}
 use native.Mathlib.Omega.{arith}
+use lib.ListN.{length}
 use lib.IntN.{ℤ, pos, negsuc, natAbs, _+ℤ_, _-ℤ_, _*ℤ_}
 use Rattle.arith.specs.Integers.{positivePart}
 use Rattle.arith.specs.Nearest.{IsHalf}
@@ -18,10 +20,15 @@ use Rattle.grid.specs.Questions.{Sound, firstNo, ifAllYes}
 use Rattle.grid.specs.declared.edge.Edge.{Edge}
 use Rattle.grid.specs.declared.question.Answer.{Answer}
 use Rattle.grid.specs.declared.question.Answer.the-variants.{Yes, No}
+use Rattle.mask.specs.Counts.{stickCount}
 use Rattle.step.specs.Walk.{next, prev}
 use Rattle.contour.specs.Walk.{walked}
-use Rattle.contour.specs.Contours.{walkOf, contoursOf}
+use Rattle.contour.specs.Contours.{walkOf, contourOf, firstSticks, contoursOf}
+use Rattle.contour.proofs.First.{first-one}
 use Rattle.contour.proofs.Outer.{foldl-flatten}
+use Rattle.contour.proofs.Contours.{walked-one}
+use Rattle.contour.proofs.Sticks.{laws}
+use Rattle.contour.proofs.Theorems.{first-sticks-only}
 use Rattle.chord.specs.Points.{Position, Point, Meets, slide}
 use Rattle.chord.specs.Crossing.{base, distance, off, along, meeting}
 use Rattle.table.specs.Vertices.{offsetAt}
@@ -33,15 +40,15 @@ use Rattle.offset.specs.Offset.{unrounded, spread, shift, signedBy, offsetBy, n
 use Rattle.offset.proofs.Rounding.{unrounded-scaled, rounded-upward}
 use Rattle.offset.proofs.Meeting.{spread-is, shift-is, meets-at}
 use Rattle.offset.proofs.Offsets.{spread-some}
-use Rattle.smooth.specs.Smooth.{smoothedAt, Pass, passed, visit, passContour, pass, vertexCount, isSettled, Smoothed, unsmoothed, further, until, smooth}
+use Rattle.smooth.specs.Smooth.{smoothedAt, Pass, passed, visit, passContour, contourPass, Smoothed, unsmoothed, settle, smoothContour, noContour, withContour, inTurn, smooth}
 use Rattle.smooth.specs.Call.{Outcome, refusedWith, doneWith, smoothOf}
-use Rattle.smooth.specs.Former.{roundedUp, formerAt, formerVisit, formerPass, former, formerOf}
+use Rattle.smooth.specs.Former.{roundedUp, upwardAt, upwardVisit, formerPass, former, upwardContour, upwardSmooth, upwardOf}
 use Rattle.smooth.proofs.Neighbours.{OnSide}
 use Rattle.smooth.proofs.Steps.{previous-vertex, next-vertex, neighbours-around, visit-kept}
-use Rattle.smooth.proofs.Passes.{AllSticks, head-stick, tail-sticks, pass-walked, walked-sticks, pass-kept}
+use Rattle.smooth.proofs.Passes.{until-same, AllSticks, head-stick, tail-sticks, passContour-kept, contour-sticks, contourPass-kept, contour-kept}
 use Rattle.smooth.proofs.Walking.{smoothable-kept}
+use Rattle.smooth.proofs.Rounds.{smoothNext, smooth-is}
 use Rattle.smooth.proofs.Held.{smoothable-of}
-use Rattle.smooth.proofs.Limits.{standing}
 
 -- ---- on numbers
 
@@ -119,58 +126,80 @@ module _ {L : Layer} (sound : Sound L) where
         no-half-at (neighbours-around sound kept e stick)
         (previous-vertex sound kept e stick .on-side) (next-vertex sound kept e stick .on-side)
 
-    pub former-step : formerAt L t e ≡ smoothedAt L t e
-    former-step =
+    pub upward-step : upwardAt L t e ≡ smoothedAt L t e
+    upward-step =
         same-offset (neighbours-around sound kept e stick)
         (previous-vertex sound kept e stick .on-side) (next-vertex sound kept e stick .on-side)
 
-  former-visit : (s : Pass) → AllKept L (s .table) → (e : Edge) → isStick L e ≡ true → formerVisit L s e ≡ visit L s e
-  unfolding formerVisit visit
-  former-visit s kept e stick =
+  upward-visit : (s : Pass) → AllKept L (s .table) → (e : Edge) → isStick L e ≡ true → upwardVisit L s e ≡ visit L s e
+  unfolding upwardVisit visit
+  upward-visit s kept e stick =
       let t = s .table in
-      ap (λ (new : ℕ). passed (slid L t e new) (s .total + distance (offsetAt L t e) new)) (former-step kept e stick)
+      ap (λ (new : ℕ). passed (slid L t e new) (s .total + distance (offsetAt L t e) new)) (upward-step kept e stick)
 
-  -- ---- a pass
+  -- ---- a pass over any sticks: a contour's, or those of all contours
 
-  former-visits : (c : List Edge) → AllSticks L c → (s : Pass) → AllKept L (s .table) → foldl (formerVisit L) s c ≡ passContour L s c
+  pub upward-visits : (c : List Edge) → AllSticks L c → (s : Pass) → AllKept L (s .table) → foldl (upwardVisit L) s c ≡ passContour L s c
   unfolding passContour
-  former-visits [] h s kept = refl
-  former-visits (e ∷ c) h s kept =
+  upward-visits [] h s kept = refl
+  upward-visits (e ∷ c) h s kept =
       let stick = head-stick sound e c h in
-      ap (λ (r : Pass). foldl (formerVisit L) r c) (former-visit s kept e stick)
-      ∙ former-visits c (tail-sticks sound e c h) (visit L s e) (visit-kept sound s kept e stick)
-
-  pub former-pass : {t : List ℕ} → AllKept L t → formerPass L t ≡ pass L t
-  unfolding formerPass
-  former-pass {t} kept =
-      foldl-flatten (formerVisit L) (passed t 0) (contoursOf L)
-      ∙ former-visits (walked (walkOf L)) (walked-sticks sound) (passed t 0) kept
-      ∙ sym (pass-walked sound t)
+      ap (λ (r : Pass). foldl (upwardVisit L) r c) (upward-visit s kept e stick)
+      ∙ upward-visits c (tail-sticks sound e c h) (visit L s e) (visit-kept sound s kept e stick)
 
   -- ---- smoothing
 
-  former-until : (n : ℕ) (s : Smoothed) → AllKept L (s .table) → until (formerPass L) (vertexCount L) n s ≡ until (pass L) (vertexCount L) n s
-  unfolding until further
-  former-until zero s kept = refl
-  former-until (suc n) s kept =
-      let v = vertexCount L in
-      let later : until (formerPass L) v n (further (formerPass L) v s) ≡ until (pass L) v n (further (pass L) v s) =
-      ap (λ (p : Pass). until (formerPass L) v n (standing (p .table) (s .passes + 1) (p .total) (isSettled (p .total) v))) (former-pass kept)
-      ∙ former-until n (further (pass L) v s) (pass-kept sound kept) in
-      ap (λ (r : Smoothed). elim (s .settled) [ true ↦ s | false ↦ r ]) later
+  pub upward-contour : (limit : ℕ) (f : Edge) → isStick L f ≡ true → {t : List ℕ} → AllKept L t → upwardContour L limit t f ≡ smoothContour L limit t f
+  unfolding upwardContour smoothContour
+  upward-contour limit f stick {t} kept =
+      until-same (length (contourOf L f)) (AllKept L)
+      (λ u h. upward-visits (contourOf L f) (contour-sticks sound f stick) (passed u 0) h)
+      (λ u h. contourPass-kept sound f stick h)
+      limit (unsmoothed (contourPass L f) (length (contourOf L f)) t) kept
 
-  pub former-smooth : (limit : ℕ) {t : List ℕ} → AllKept L t → former L limit t ≡ smooth L limit t
-  unfolding former smooth
-  former-smooth limit {t} kept = former-until limit (unsmoothed (vertexCount L) t) kept
+  upward-contours : (limit : ℕ) (l : List Edge) → AllSticks L l → (s : Smoothed) → AllKept L (s .table)
+      → foldl (λ r f. withContour r (upwardContour L limit (r .table) f)) s l ≡ foldl (smoothNext L limit) s l
+  upward-contours limit [] h s kept = refl
+  upward-contours limit (f ∷ l) h s kept =
+      let stick = head-stick sound f l h in
+      ap (λ (r : Smoothed). foldl (λ q g. withContour q (upwardContour L limit (q .table) g)) (withContour s r) l) (upward-contour limit f stick kept)
+      ∙ upward-contours limit l (tail-sticks sound f l h) (smoothNext L limit s f) (contour-kept sound f stick limit kept .kept)
 
--- the call, whatever is lent
-pub same-smoothing : (L : Layer) (limit : ℕ) (t : List ℕ) → formerOf L limit t ≡ smoothOf L limit t
-unfolding formerOf smoothOf
-same-smoothing L limit t = by (firstNo (keptQuestions L t)) refl
+  pub upward-smooth : (limit : ℕ) {t : List ℕ} → AllKept L t → upwardSmooth L limit t ≡ smooth L limit t
+  unfolding upwardSmooth inTurn
+  upward-smooth limit {t} kept =
+      upward-contours limit (firstSticks L) (λ f o. first-one (walkOf L) (laws L sound) f (first-sticks-only L sound f o)) (noContour t) kept
+      ∙ sym (smooth-is L limit t)
+
+  -- the paper's rule with Note 2's rounding, which stood between the two notes: passes over all contours as one list of sticks
+  abbrev pub layerPass : List ℕ → Pass
+  layerPass t = passContour L (passed t 0) (walked (walkOf L))
+
+  pub former-layer : (limit : ℕ) {t : List ℕ} → AllKept L t → former L limit t ≡ settle layerPass (stickCount L) limit t
+  unfolding former formerPass
+  former-layer limit {t} kept =
+      until-same (stickCount L) (AllKept L)
+      (λ u h. foldl-flatten (upwardVisit L) (passed u 0) (contoursOf L) ∙ upward-visits (walked (walkOf L)) all (passed u 0) h)
+      (λ u h. passContour-kept sound (walked (walkOf L)) all (passed u 0) h)
+      limit (unsmoothed layerPass (stickCount L) t) kept
+    where
+      all : AllSticks L (walked (walkOf L))
+      all = walked-one (walkOf L) (laws L sound)
+
+-- two rules that give the same on tables with all vertices kept make the same call, whatever is lent
+pub same-call : (L : Layer) (t : List ℕ) (one other : Smoothed) → (Sound L → AllKept L t → one ≡ other)
+    → ifAllYes (firstNo (keptQuestions L t)) (λ q place. refusedWith q place t) (doneWith one)
+    ≡ ifAllYes (firstNo (keptQuestions L t)) (λ q place. refusedWith q place t) (doneWith other)
+same-call L t one other same = by (firstNo (keptQuestions L t)) refl
   where
     call : Answer → Smoothed → Outcome
     call answer s = ifAllYes answer (λ q place. refusedWith q place t) (doneWith s)
 
-    by : (answer : Answer) → firstNo (keptQuestions L t) ≡ answer → call answer (former L limit t) ≡ call answer (smooth L limit t)
-    by Yes e = let given = smoothable-of L t e in ap doneWith (former-smooth (given .sound) limit (smoothable-kept given))
+    by : (answer : Answer) → firstNo (keptQuestions L t) ≡ answer → call answer one ≡ call answer other
+    by Yes e = let given = smoothable-of L t e in ap doneWith (same (given .sound) (smoothable-kept given))
     by (No q place) e = refl
+
+-- no layer, limit or table tells a half upward from one toward 128
+pub same-smoothing : (L : Layer) (limit : ℕ) (t : List ℕ) → upwardOf L limit t ≡ smoothOf L limit t
+unfolding upwardOf smoothOf
+same-smoothing L limit t = same-call L t (upwardSmooth L limit t) (smooth L limit t) λ sound kept. upward-smooth sound limit kept

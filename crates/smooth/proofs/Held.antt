@@ -16,7 +16,7 @@ use Rattle.held.proofs.Asking.{kept-of-yes}
 use Rattle.smooth.specs.Smooth.{smooth, Smoothable}
 use Rattle.smooth.specs.Call.{Outcome, refusedWith, doneWith, smoothOf}
 use Rattle.smooth.proofs.Walking.{smoothable-kept}
-use Rattle.smooth.proofs.Passes.{smooth-kept}
+use Rattle.smooth.proofs.Rounds.{smooth-kept}
 
 -- a yes to all questions
 pub smoothable-of : (L : Layer) (t : List ℕ) → firstNo (keptQuestions L t) ≡ Yes → Smoothable L t

@@ -12,4 +12,5 @@ pub mod Rounds
 pub mod Limits
 pub mod Held
 pub mod Halves
+pub mod Single
 pub mod Examples

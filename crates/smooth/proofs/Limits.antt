@@ -1,9 +1,10 @@
 -- What a loop over the passes of one contour cites: the invariant `PartSettled`, the sizes of its numbers, the next turn's, and both ends.
-use mathlib.Core.Path.{_≡_, refl, sym, _∙_, ap, subst}
+use mathlib.Core.Path.{_≡_, sym, _∙_, ap, subst}
 use mathlib.Core.Bool.{Bool, true, false}
 use mathlib.Core.List.{List}
 use Prim.Native.Nat.{ℕ, suc, _+_, _-_, _≤_, _<_}
 use native.Mathlib.Omega.{arith}
+use borrow.Author.Tests.{ne-eqb}
 use lib.Dec.{eqb}
 use lib.ListN.{length}
 use Rattle.grid.specs.Layer.{Layer}
@@ -16,11 +17,8 @@ use Rattle.table.proofs.AllKept.{AllKept}
 use Rattle.smooth.specs.Smooth.{Pass, contourPass, isSettled, mostVertices, mostTotal, Smoothed, further, until, smoothContour}
 use Rattle.smooth.specs.Visit.{PassMade}
 use Rattle.smooth.specs.declared.pass.PassCounts.{PassCounts}
-use Rattle.smooth.proofs.Passes.{contour-is, further-is, until-none, until-settled, until-more, contourPass-kept}
+use Rattle.smooth.proofs.Passes.{standing, contour-is, further-is, until-none, until-settled, until-more, contourPass-kept}
 use Rattle.smooth.proofs.Sizes.{contour-most, pass-most}
-
-abbrev pub standing : List ℕ → ℕ → ℕ → Bool → Smoothed
-standing t passes total settled = record { table = t; passes = passes; total = total; settled = settled }
 
 -- at most n passes more over the contour of f
 abbrev more : Layer → Edge → ℕ → Smoothed → Smoothed
@@ -35,7 +33,7 @@ pub record PartSettled (L : Layer) (limit : ℕ) (t₀ : List ℕ) (f : Edge) (t
 -- a contour has a vertex, so it is not settled before any pass
 contour-some : (L : Layer) (f : Edge) → eqb (length (contourOf L f)) 0 ≡ false
 unfolding rest
-contour-some L f = refl
+contour-some L f = ne-eqb (length (contourOf L f)) 0 λ (none : length (contourOf L f) ≡ 0). omega (arith, none)
 
 pub settling-start : {L : Layer} {limit : ℕ} {t : List ℕ} {f : Edge} → AllKept L t → PartSettled L limit t f t 0 0 false
 settling-start {L} {limit} {t} {f} kept =

@@ -20,6 +20,10 @@ use Rattle.table.proofs.AllKept.{AllKept}
 use Rattle.smooth.specs.Smooth.{Pass, passed, visit, passContour, contourPass, isSettled, Smoothed, further, until, unsmoothed, settle, smoothContour}
 use Rattle.smooth.proofs.Steps.{visit-kept, visit-total}
 
+-- where smoothing stands, by its figures
+abbrev pub standing : List ℕ → ℕ → ℕ → Bool → Smoothed
+standing t passes total settled = record { table = t; passes = passes; total = total; settled = settled }
+
 pub passContour-is : (L : Layer) (s : Pass) (c : List Edge) → passContour L s c ≡ foldl (visit L) s c
 unfolding passContour
 passContour-is L s c = refl
@@ -72,6 +76,17 @@ module _ (onePass : List ℕ → Pass) (vertices : ℕ) where
   until-keeps P keeps (suc n) s h = both-sides (s .settled)
       (λ y. rw (until-settled (suc n) s y) h)
       (λ y. rw (until-more n s y) (until-keeps P keeps n (further onePass vertices s) (keeps s h)))
+
+-- passes that do the same on tables with a property, which they keep, are the same to the end
+pub until-same : {F G : List ℕ → Pass} (vertices : ℕ) (P : List ℕ → Type 0) → ((t : List ℕ) → P t → F t ≡ G t)
+    → ((t : List ℕ) → P t → P (G t .table)) → (n : ℕ) (s : Smoothed) → P (s .table) → until F vertices n s ≡ until G vertices n s
+unfolding until further
+until-same vertices P same keeps zero s h = refl
+until-same {F} {G} vertices P same keeps (suc n) s h =
+    let later : until F vertices n (further F vertices s) ≡ until G vertices n (further G vertices s) =
+    ap (λ (p : Pass). until F vertices n (standing (p .table) (s .passes + 1) (p .total) (isSettled (p .total) vertices))) (same (s .table) h)
+    ∙ until-same vertices P same keeps n (further G vertices s) (keeps (s .table) h) in
+    ap (λ (r : Smoothed). elim (s .settled) [ true ↦ s | false ↦ r ]) later
 
 -- ---- a list of sticks, such as a contour
 

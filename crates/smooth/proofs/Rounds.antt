@@ -1,22 +1,28 @@
 -- Contours smoothed one after the other: that nothing is removed and the limit holds, and what a loop over them cites: the invariant
 -- `PartSmoothed`, the bound of the total, the next turn's, and the end.
 use mathlib.Core.Path.{_≡_, refl, sym, _∙_, ap, subst}
-use mathlib.Core.Bool.{true, false}
+use mathlib.Core.Bool.{Bool, true, false, _&&_, true≢false}
 use mathlib.Core.List.{List, [], _∷_, map, flatten, foldl}
-use Prim.Native.Nat.{ℕ, _+_, _*_, _≤_}
+use Prim.Native.Nat.{ℕ, _+_, _*_, _≤_, _<_, max}
 use native.Mathlib.Omega.{arith}
 use lib.ListN.{length, length-append}
+use Rattle.arith.specs.Booleans.{asNumber}
+use Rattle.arith.proofs.Booleans.{both-sides}
 use Rattle.grid.specs.Layer.{Layer}
 use Rattle.grid.specs.Questions.{Sound}
 use Rattle.grid.specs.declared.edge.Edge.{Edge}
-use Rattle.contour.specs.Contours.{contourOf, firstSticks}
+use Rattle.contour.specs.Walk.{occurrences, first}
+use Rattle.contour.specs.Contours.{walkOf, contourOf, firstSticks}
 use Rattle.contour.specs.Sets.{FirstSet}
 use Rattle.contour.specs.Cursors.{left, Placed, Opened, Moved}
 use Rattle.contour.specs.declared.cursor.Cursor.{Cursor}
+use Rattle.contour.proofs.First.{first-one}
+use Rattle.contour.proofs.Sticks.{laws}
+use Rattle.contour.proofs.Theorems.{first-sticks-only}
 use Rattle.contour.proofs.Cursors.{here-stick, here-left, none-left, fold-turn, fold-end}
 use Rattle.table.proofs.AllKept.{AllKept, passes-entries, passes-all-kept}
 use Rattle.smooth.specs.Smooth.{mostTotal, Smoothed, noContour, withContour, smoothContour, smooth, Smoothable, SmoothableAt}
-use Rattle.smooth.proofs.Passes.{Kept, contour-kept}
+use Rattle.smooth.proofs.Passes.{standing, Kept, contour-kept, contour-passes}
 use Rattle.smooth.proofs.Sizes.{vertices-most}
 
 pub kept-smoothable : {L : Layer} {t : List ℕ} → Sound L → AllKept L t → Smoothable L t
@@ -35,6 +41,46 @@ smoothNext L limit s f = withContour s (smoothContour L limit (s .table) f)
 pub smooth-is : (L : Layer) (limit : ℕ) (t : List ℕ) → smooth L limit t ≡ foldl (smoothNext L limit) (noContour t) (firstSticks L)
 unfolding smooth
 smooth-is L limit t = refl
+
+-- ---- what comes of it: every vertex is kept, at an offset of 1 to 255, after it as before; and the limit
+
+module _ {L : Layer} (sound : Sound L) (limit : ℕ) where
+  contours-kept : (l : List Edge) → ((f : Edge) → 0 < occurrences (walkOf L) f l → first (walkOf L) f ≡ true) → (s : Smoothed) → AllKept L (s .table)
+      → AllKept L (foldl (smoothNext L limit) s l .table)
+  unfolding occurrences
+  contours-kept [] h s kept = kept
+  contours-kept (f ∷ l) h s kept =
+      let is = h f (omega (arith, ap asNumber (laws L sound .same-self f))) in
+      contours-kept l (λ g o. h g (omega arith)) (smoothNext L limit s f)
+      (contour-kept sound f (first-one (walkOf L) (laws L sound) f is) limit kept .kept)
+
+  pub smooth-kept : {t : List ℕ} → AllKept L t → AllKept L (smooth L limit t .table)
+  smooth-kept {t} kept = rw (smooth-is L limit t) (contours-kept (firstSticks L) (first-sticks-only L sound) (noContour t) kept)
+
+module _ (L : Layer) (limit : ℕ) where
+  -- no contour goes beyond the limit, and one that is not settled gets there
+  pub record WithinLimit (s : Smoothed) : Type 0 where
+    pub passes-most : s .passes ≤ limit
+    pub passes-all : s .settled ≡ false → s .passes ≡ limit
+
+  contours-within : (l : List Edge) (s : Smoothed) → WithinLimit s → WithinLimit (foldl (smoothNext L limit) s l)
+  contours-within [] s w = w
+  contours-within (f ∷ l) s w =
+      let one = contour-passes L limit (s .table) f in
+      contours-within l (smoothNext L limit s f)
+      (record {
+        passes-most = omega (arith, w .passes-most, one .0);
+        passes-all = λ y. both-sides (s .settled)
+            (λ (all : s .settled ≡ true). omega (arith, w .passes-most, one .1 (sym (ap (λ (b : Bool). b && smoothContour L limit (s .table) f .settled) all) ∙ y)))
+            (λ (not-all : s .settled ≡ false). omega (arith, w .passes-all not-all, one .0));
+      })
+
+  pub smooth-within : (t : List ℕ) → WithinLimit (smooth L limit t)
+  smooth-within t =
+      rw (smooth-is L limit t)
+      (contours-within (firstSticks L) (noContour t) (record { passes-most = omega arith; passes-all = λ y. absurd (true≢false y) }))
+
+-- ---- the loop
 
 -- how many sticks the contours of some first sticks have
 abbrev pub sticksOf : Layer → List Edge → ℕ
@@ -85,8 +131,10 @@ module _ {L : Layer} {set : List ℕ} (firsts : FirstSet L set) {limit : ℕ} {t
       pub smoothing-most : s .total + r .total ≤ mostTotal
       smoothing-most = omega (arith, room-left _ (here-left firsts (g .placed) more))
 
-      pub smoothing-turn : {c′ : Cursor} → Moved L c c′ → PartSmoothed L limit t₀ (withContour s r) c′
-      smoothing-turn {c′} m =
+      -- p and b are what the code makes of the passes and of whether all are settled
+      pub smoothing-turn : {c′ : Cursor} {p : ℕ} {b : Bool} → Moved L c c′ → p ≡ max (s .passes) (r .passes) → b ≡ (s .settled && r .settled)
+          → PartSmoothed L limit t₀ (standing (r .table) p (s .total + r .total) b) c′
+      smoothing-turn {c′} m p-is b-is = rw (p-is, b-is)
           record {
             placed = m .placed;
             kept = found-kept .kept;

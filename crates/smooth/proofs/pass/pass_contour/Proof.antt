@@ -10,16 +10,17 @@ use Rattle.contour.specs.Contours.{walkOf}
 use Rattle.chord.specs.Points.{position}
 use Rattle.table.specs.Lent.{LentAt}
 use Rattle.table.proofs.Lent.{has-entry, places-few}
-use Rattle.smooth.proofs.Walking.{smoothable-kept, stick-near, lent-next, lent-previous, entry-within, entry-suits, NextVertex, PartVisited, visits-start, visits-here, visitable, visits-less, visited-kept, total-within, visits-turn, visits-last}
+use Rattle.smooth.proofs.Walking.{smoothable-kept, stick-near, lent-next, lent-previous, entry-within, entry-suits, NextVertex, PartVisited, visits-start, visits-here, visitable, visits-few, visits-less, visited-kept, total-within, visits-turn, visits-last}
+use Rattle.smooth.proofs.Sizes.{contour-most, pass-most}
 use Rattle.smooth.proofs.pass.pass_contour.Statement.{statement}
 use Rattle.smooth.proofs.pass.pass_contour.Tie as tie
 
 abbrev Inv-loop : tie.InvT-loop
-Inv-loop size bitmap table₀ total start p₀ e₀ at₀ sum₀ table p e at sum =
-    PartVisited (layerOf size bitmap) e₀ table₀ total table e at p sum
+Inv-loop size bitmap table₀ start p₀ e₀ at₀ total₀ vertices₀ table p e at total vertices =
+    PartVisited (layerOf size bitmap) e₀ table₀ table e at p total vertices
 
 abbrev μ-loop : tie.MeasureT-loop
-μ-loop size bitmap table₀ total start p₀ e₀ at₀ sum₀ table p e at sum = length (rest (walkOf (layerOf size bitmap)) e e₀)
+μ-loop size bitmap table₀ start p₀ e₀ at₀ total₀ vertices₀ table p e at total vertices = length (rest (walkOf (layerOf size bitmap)) e e₀)
 
 -- Before the loop: the first stick, and the one before it
 
@@ -91,55 +92,72 @@ visit-requires c κs =
     let at-loop = c .before .before .before .before .before .before in
     visitable (start at-loop .pre .table .sound) (at-loop .loop .inv) (ahead (c .before))
 
-add-sum : tie.Need-add-sum Inv-loop μ-loop
-add-sum c =
+-- After the step
+
+abbrev found : tie.After-visit Inv-loop μ-loop → tie.After-position-of Inv-loop μ-loop
+found c = c .before .before
+
+abbrev turn : tie.After-visit Inv-loop μ-loop → tie.At-loop Inv-loop μ-loop
+turn c = found c .before .before .before .before .before
+
+add-total : tie.Need-add-total Inv-loop μ-loop
+add-total c =
     let visited = c .before .before .before in
-    let found = visited .before .before in
-    let at-loop = found .before .before .before .before .before in
-    let given = start at-loop .pre in
-    omega (arith, total-within (given .table .sound) (at-loop .loop .inv) (ahead found) (visited .visit .ensures), given .fits)
+    let given = start (turn visited) .pre in
+    let inv = turn visited .loop .inv in
+    omega (
+      arith,
+      total-within (given .table .sound) inv (ahead (found visited)) (visited .visit .ensures),
+      pass-most (given .table .sound) (start (turn visited) .args .first) (given .stick) (smoothable-kept (given .table)),
+    )
+
+add-vertices : tie.Need-add-vertices Inv-loop μ-loop
+add-vertices c =
+    let visited = c .before .before .before in
+    let given = start (turn visited) .pre in
+    omega (
+      arith,
+      visits-few (given .table .sound) (turn visited .loop .inv) (ahead (found visited)),
+      contour-most (given .table .sound) (start (turn visited) .args .first) (given .stick),
+    )
 
 -- the place of the first entry is that of `first`
 home : (c : tie.At-loop Inv-loop μ-loop)
     → let a = start c .args in c .before .before .before .before .number-of .result ≡ number (a .size) (a .first)
 home c = c .before .before .before .before .number-of .ensures
 
+abbrev visited : tie.After-position-of2 Inv-loop μ-loop → tie.After-visit Inv-loop μ-loop
+visited c = c .before .before .before .before
+
 loop-less : tie.Need-loop-less Inv-loop μ-loop
 loop-less c =
-    let found = c .before .before .before .before .before .before .before in
-    let at-loop = found .before .before .before .before .before in
-    visits-less (start at-loop .pre .table .sound) (at-loop .loop .inv) (ahead found) (λ e. c .if1 .left (e ∙ sym (home at-loop)))
+    let v = visited (c .before) in
+    visits-less (start (turn v) .pre .table .sound) (turn v .loop .inv) (ahead (found v)) (λ e. c .if1 .left (e ∙ sym (home (turn v))))
 
 loop-again : tie.Need-loop-again Inv-loop μ-loop
 loop-again c =
-    let visited = c .before .before .before .before .before in
-    let found = visited .before .before in
-    let at-loop = found .before .before .before .before .before in
+    let v = visited (c .before) in
     let past = c .before .position-of2 .ensures in
-    visits-turn (start at-loop .pre .table .sound) (at-loop .loop .inv) (ahead found) (visited .visit .ensures) (past .0) (past .1)
-    (λ e. c .if1 .left (e ∙ sym (home at-loop)))
+    visits-turn (start (turn v) .pre .table .sound) (turn v .loop .inv) (ahead (found v)) (v .visit .ensures) (past .0) (past .1)
+    (λ e. c .if1 .left (e ∙ sym (home (turn v))))
 
 same-length : tie.Need-same-length Inv-loop μ-loop
 same-length c =
-    let visited = c .before .before .before .before .before in
-    let found = visited .before .before in
-    let at-loop = found .before .before .before .before .before in
-    let given = start at-loop .pre .table in
-    visited-kept (given .sound) (at-loop .loop .inv) (ahead found) (visited .visit .ensures) .whole ∙ sym (given .exact)
+    let v = visited (c .before) in
+    let given = start (turn v) .pre .table in
+    visited-kept (given .sound) (turn v .loop .inv) (ahead (found v)) (v .visit .ensures) .whole ∙ sym (given .exact)
 
 returns : tie.Need-returns Inv-loop μ-loop
 returns c =
-    let visited = c .before .before .before .before .before in
-    let found = visited .before .before in
-    let at-loop = found .before .before .before .before .before in
-    visits-last (start at-loop .pre .table .sound) (at-loop .loop .inv) (ahead found) (visited .visit .ensures)
-    (c .if1 .taken ∙ home at-loop)
+    let v = visited (c .before) in
+    visits-last (start (turn v) .pre .table .sound) (turn v .loop .inv) (ahead (found v)) (v .visit .ensures)
+    (c .if1 .taken ∙ home (turn v))
 
 pub pass-contour-spec : {M : Type 1} → statement M
 pass-contour-spec =
     tie.close
     (tie.spec Inv-loop μ-loop number-of-requires
     (λ c κs. let given = first (c .before .before .before .before) in (given .sound, given .stick)) vertex-at-requires loop-holds (λ c κs. let given = here c in (given .sound, given .stick)) number-of-requires-2 mul-offset-of
-    slice-read-offset-of offset-of-requires (λ c κs. stick-near (there (c .before .before .before))) visit-requires add-sum
-    (λ c κs. stick-near (here (c .before .before .before .before .before .before .before .before .before .before))) loop-less loop-again
+    slice-read-offset-of offset-of-requires (λ c κs. stick-near (there (c .before .before .before))) visit-requires add-total add-vertices
+    (λ c κs. stick-near (here (turn (c .before .before .before)))) loop-less loop-again
     same-length returns)
