@@ -204,6 +204,18 @@ uint16_t smoothed(Point p, Point q, const Stick &stick, int64_t old) {
     return (2 * top + 5 * d - (top > 5 * d * 128)) / (10 * d);
 }
 
+// A pass along a contour; answers the sum of the changes.
+uint64_t pass(const Contour &contour, uint16_t *table) {
+    uint64_t total = 0;
+    for (size_t i = 0, n = contour.size(); i < n; i++) {
+        const Stick &before = contour[i == 0 ? n - 1 : i - 1], &after = contour[i + 1 == n ? 0 : i + 1];
+        uint16_t &entry = table[contour[i].number], old = entry;
+        entry = smoothed(vertex(before, table[before.number]), vertex(after, table[after.number]), contour[i], old);
+        total += abs(int(entry) - int(old));
+    }
+    return total;
+}
+
 struct Simplifier {
     const Contour &contour;
     uint16_t *table;
@@ -378,22 +390,21 @@ uint32_t smooth(uint16_t w, uint16_t h, const uint8_t *bitmap, size_t bytes, uin
     Refusal refusal = ask_1_to_7(layer, bytes, table, entries, contours);
     if (!refusal.number) refusal = ask_all_kept(table, entries);
     if (refusal.number) return answer(figures, refusal);
-    uint64_t vertices = 0, passes = 0, total = 0;
-    for (const Contour &contour : contours) vertices += contour.size();
-    bool settled = vertices == 0;
-    while (!settled && passes < limit) {
-        total = 0;
-        for (const Contour &contour : contours)
-            for (size_t i = 0, n = contour.size(); i < n; i++) {
-                const Stick &before = contour[i == 0 ? n - 1 : i - 1], &after = contour[i + 1 == n ? 0 : i + 1];
-                uint16_t &entry = table[contour[i].number], old = entry;
-                entry = smoothed(vertex(before, table[before.number]), vertex(after, table[after.number]), contour[i], old);
-                total += abs(int(entry) - int(old));
-            }
-        passes++;
-        settled = 1000 * total < 256 * vertices;
+    uint64_t most = 0, totals = 0;
+    bool all_settled = true;
+    for (const Contour &contour : contours) {
+        uint64_t passes = 0, total = 0;
+        bool settled = false;
+        while (!settled && passes < limit) {
+            total = pass(contour, table);
+            passes++;
+            settled = 1000 * total < 256 * contour.size();
+        }
+        most = std::max(most, passes);
+        totals += total;
+        all_settled = all_settled && settled;
     }
-    return answer(figures, YES, passes, total, settled);
+    return answer(figures, YES, most, totals, all_settled);
 }
 
 uint32_t simplify(uint16_t w, uint16_t h, const uint8_t *bitmap, size_t bytes, uint16_t *table, size_t entries, uint8_t t, uint64_t *figures) {

@@ -65,7 +65,8 @@ uint32_t pz_counts(uint16_t w, uint16_t h, const uint8_t *bitmap, size_t bitmap_
 uint32_t pz_trace(uint16_t w, uint16_t h, const uint8_t *bitmap, size_t bitmap_len, uint16_t *table, size_t table_len,
                   uint64_t *figures, size_t figures_len);
 
-/* At most `limit` passes. figures: place, passes, total of the last in 1/256 of the pitch, 1 if settled */
+/* Each contour by passes of its own until it is settled, by at most `limit`. figures: place, most passes of a contour, sum of the contours' last
+ * totals in 1/256 of the pitch, 1 if all are settled */
 uint32_t pz_smooth(uint16_t w, uint16_t h, const uint8_t *bitmap, size_t bitmap_len, uint16_t *table, size_t table_len,
                    uint16_t limit, uint64_t *figures, size_t figures_len);
 

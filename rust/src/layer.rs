@@ -29,11 +29,11 @@ pub struct Counts {
 /// What [`Layer::smooth`] answers.
 #[derive(Clone, Copy, Debug, PartialEq, Eq)]
 pub struct Smoothed {
-    /// Passes made.
+    /// The most passes that a contour took.
     pub passes: u64,
-    /// The changes of the last pass, summed up, in 1/256 of the pitch.
+    /// The changes of each contour's last pass, summed up over all contours, in 1/256 of the pitch.
     pub total: u64,
-    /// Whether the last pass changed too little to go on; if not, the limit was met.
+    /// Whether every contour's last pass changed too little to go on; if not, some contour met the limit.
     pub settled: bool,
 }
 
@@ -141,7 +141,8 @@ impl<'a> Layer<'a> {
         accepted(raw::trace(*self, table)).map(drop)
     }
 
-    /// Smooths the contours by at most `limit` passes; every vertex stays strictly inside its stick. Questions 1 to 7 and 15.
+    /// Smooths each contour by passes until it is settled, by at most `limit`; every vertex stays strictly inside its stick. A contour is settled
+    /// after a pass that moves its vertices by less than a thousandth of the pitch on average. Questions 1 to 7 and 15.
     ///
     /// ```
     /// # use puzhenim::{Layer, Smoothed};

@@ -69,6 +69,21 @@ fn smoothing_a_single_sample() {
 }
 
 #[test]
+fn a_contour_settles_by_itself() {
+    // Three of four single samples stand where their tenth pass leaves them. Over the layer the fourth's ninth pass would be settled.
+    let four = Layer { width: 5, height: 5, bitmap: &[0, 0b01010, 0, 0b01010, 0] };
+    let mut table = traced(four);
+    assert_eq!(four.smooth(&mut table, 100), Ok(Smoothed { passes: 10, total: 0, settled: true }));
+    let settled = table.clone();
+    for stick in [4, 21, 5, 26] {
+        table[stick] = 128;
+    }
+    assert_eq!(four.smooth(&mut table.clone(), 9), Ok(Smoothed { passes: 9, total: 4, settled: false }));
+    assert_eq!(four.smooth(&mut table, 100), Ok(Smoothed { passes: 10, total: 0, settled: true }));
+    assert_eq!(table, settled);
+}
+
+#[test]
 fn smoothing_by_no_pass() {
     let mut table = traced(SINGLE);
     assert_eq!(SINGLE.smooth(&mut table, 0), Ok(Smoothed { passes: 0, total: 0, settled: false }));

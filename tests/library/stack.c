@@ -159,7 +159,9 @@ static void all_calls(const char *name, uint64_t contours) {
     make(&ROLL), answered(&ROLL, sticks, 0, 0);
     expect(entries(100, 100) == sticks, "pz_roll", "another table");
     memcpy(before, table, sizeof table);
-    make(&SMOOTH), answered(&SMOOTH, 1, movement(), 1000 * movement() < 256 * sticks);
+    /* After one pass the last totals are all that moved. One contour is settled if that is below its bound. Of several one is short and moves at
+     * its corners, so that not all are settled; taken together the squares would be. */
+    make(&SMOOTH), answered(&SMOOTH, 1, movement(), contours == 1 && 1000 * movement() < 256 * sticks);
     expect(entries(1, 255) == sticks, "pz_smooth", "another table");
     make(&SIMPLIFY);
     expect(figures[1] == entries(257, 511) && figures[3] == 0, "pz_simplify", "other vertices removed");

@@ -1,11 +1,11 @@
 // The cases of the paper's section 'Cases', starred or not, each with the
-// figures it gives, and the layer program's example.
+// figures it gives, the layer program's example, and cases of the changes.
 
 use crate::contour::{contours, Contour};
 use crate::depth::depths;
 use crate::layer::Layer;
 use crate::machine::{Answer, Machine};
-use crate::picture::{frames, shown};
+use crate::picture::{frames, lattice, shown};
 use crate::places;
 use crate::planner::planner;
 use crate::program::program;
@@ -105,6 +105,36 @@ fn limits() -> Vec<Check> {
             &[255, 255, 1, 1],
             around(&machine),
         ));
+    }
+    checks
+}
+
+/// Note 3: "Each contour is now settled by its own total and its own vertices." Of
+/// four single samples three are where their tenth pass leaves them, and have totals
+/// of 0. So the fourth, wherever it stands, makes the answer, that of the paper's
+/// single sample; over the layer the 4 of its ninth pass would be settled, as
+/// 1000×4 is below 256×16.
+fn one_of_four() -> Vec<Check> {
+    let layer = lattice(2, 2);
+    let walks = contours(&layer);
+    let mut checks = Vec::new();
+    for fourth in &walks {
+        for (limit, wanted) in [
+            (0, [0, 0, 0, 0, 0]),
+            (1, [0, 0, 1, 204, 0]),
+            (9, [0, 0, 9, 4, 0]),
+            (10, [0, 0, 10, 0, 1]),
+            (65535, [0, 0, 10, 0, 1]),
+        ] {
+            let mut machine = traced(&layer);
+            for walk in walks.iter().filter(|walk| *walk != fourth) {
+                for (stick, offset) in walk.iter().zip([255, 255, 1, 1]) {
+                    machine.table[*stick] = offset;
+                }
+            }
+            let answer = whole(call(&mut machine, Command::Smooth { limit }));
+            checks.push(check("one of four samples", &wanted, answer));
+        }
     }
     checks
 }
@@ -307,6 +337,7 @@ pub fn wrong() -> Vec<String> {
     let groups = vec![
         single_sample(),
         limits(),
+        one_of_four(),
         simplified(),
         slid_bar(),
         diagonals_and_rolls(),

@@ -33,6 +33,13 @@ impl Rng {
         values[self.below(values.len())]
     }
 
+    /// Puts the values into a random order.
+    pub fn shuffle<T>(&mut self, values: &mut [T]) {
+        for i in 1..values.len() {
+            values.swap(i, self.below(i + 1));
+        }
+    }
+
     /// So many bytes.
     pub fn bytes(&mut self, n: usize) -> Vec<u8> {
         (0..n).map(|_| self.next() as u8).collect()

@@ -65,7 +65,8 @@ pub fn lists(b: &mut Builder) {
 fn every_call(b: &mut Builder, layer: &Layer) {
     b.traced(layer);
     b.add(Command::Counts);
-    b.add(Command::Smooth { limit: 5 });
+    let limit = b.rng.pick(&[5, 100]);
+    b.add(Command::Smooth { limit });
     let t = b.rng.pick(&TOLERANCES);
     b.add(Command::Simplify { t });
     for _ in 0..20 {

@@ -4,10 +4,11 @@
 use crate::builder::{edit_bytes, Builder};
 use crate::contour::contours;
 use crate::hold::{is_kept, is_removed};
-use crate::layer::{Edge, Layer};
+use crate::layer::Layer;
 use crate::picture;
 use crate::refusals::{ask_1_to_7, not_held, plain, remove_at_random, some_removed, Call};
 use crate::script::Command;
+use crate::sets_settling::settling;
 
 const LIMITS: [u16; 7] = [0, 1, 2, 9, 10, 50, 65535];
 const TOLERANCES: [u8; 9] = [0, 1, 11, 12, 64, 85, 86, 128, 255];
@@ -62,38 +63,6 @@ fn at_one_offset(b: &mut Builder, layer: &Layer, offset: u16, call: Call) {
 /// A larger layer of discs and rings.
 fn discs(b: &mut Builder) -> Layer {
     picture::discs(&mut b.rng, 100, 100, 8)
-}
-
-/// The sticks about a sample with no inside sample next to it, in contour order.
-fn around(layer: &Layer, c: usize, r: usize) -> [usize; 4] {
-    let number = |kind, c, r| layer.number(Edge { kind, c, r });
-    [
-        number(0, c - 1, r),
-        number(1, c, r - 1),
-        number(0, c, r),
-        number(1, c, r),
-    ]
-}
-
-/// 125 single samples, 500 vertices, all settled but a few, which have a total of
-/// 4 before them: 32 of these make 1000×128 = 256×500, which is not yet settled,
-/// 31 are.
-fn threshold(b: &mut Builder) {
-    let lattice = picture::lattice(25, 5);
-    b.traced(&single());
-    b.add(Command::Smooth { limit: 8 });
-    let before: Vec<u16> = [2, 7, 3, 10].iter().map(|&n| b.machine.table[n]).collect();
-    for (unsettled, limit) in [(31, 2), (32, 1), (32, 2), (33, 2)] {
-        b.traced(&lattice);
-        b.add(Command::Smooth { limit: 100 });
-        for i in 0..unsettled {
-            let sticks = around(&lattice, 1 + 2 * (i % 25), 1 + 2 * (i / 25));
-            for (stick, &offset) in sticks.iter().zip(&before) {
-                b.poke(*stick, offset);
-            }
-        }
-        b.add(Command::Smooth { limit });
-    }
 }
 
 /// Removes the vertices of these sticks, and asks.
@@ -187,7 +156,7 @@ pub fn smooth(b: &mut Builder) {
     b.traced(&large);
     b.add(Command::Smooth { limit: 1 });
     b.add(Command::Smooth { limit: 200 });
-    threshold(b);
+    settling(b);
 }
 
 /// The bar of the paper with its lower middle vertex slid to 140.

@@ -1,5 +1,6 @@
-// Smooth: passes over all vertices, each drawn two fifths of the way towards
-// the segment between its neighbours, until settled or at the limit.
+// Smooth: each contour by passes along it, in which a vertex is drawn two fifths
+// of the way towards the segment between its neighbours, until the contour is
+// settled or at the limit. And Smooth as the paper had it before Notes 2 and 3.
 
 use std::cmp::Ordering;
 
@@ -8,7 +9,9 @@ use crate::contour::Contour;
 use crate::hold::{ask_1_to_7, ask_all_kept, offset, vertex_of};
 use crate::layer::{Layer, Refusal};
 
-/// "The answer is passes, last total (0 if none) and settled or limit."
+/// "The answer is passes, last total (0 if none) and settled or limit", of one
+/// contour or of a layer.
+#[derive(Clone, Copy, PartialEq, Eq, Debug)]
 pub struct Smoothed {
     pub passes: u64,
     pub total: u64,
@@ -52,19 +55,70 @@ fn slide(rule: Rule, layer: &Layer, contour: &[usize], table: &mut [u16], i: usi
 
 /// "A pass visits vertices in contour order, each using its neighbours as they
 /// then are. ... The pass total is the sum of the absolute changes."
-fn pass(rule: Rule, layer: &Layer, contours: &[Contour], table: &mut [u16]) -> u64 {
-    let mut total = 0;
-    for contour in contours {
-        for i in 0..contour.len() {
-            total += slide(rule, layer, contour, table, i);
-        }
-    }
-    total
+pub fn pass(rule: Rule, layer: &Layer, contour: &[usize], table: &mut [u16]) -> u64 {
+    (0..contour.len())
+        .map(|i| slide(rule, layer, contour, table, i))
+        .sum()
 }
 
-/// "Smoothing is settled after a pass with 1000×total < 256×vertices, taken over
-/// the layer, or before any pass if there are no vertices. Otherwise it goes on
-/// until the limit." Questions 1 to 7 and 15.
+/// Passes until "settled after a pass with 1000×total < 256×vertices"; "otherwise
+/// it goes on until the limit", and "settled wins if both hold".
+fn until_settled(vertices: usize, limit: u16, mut pass: impl FnMut() -> u64) -> Smoothed {
+    let mut answer = Smoothed {
+        passes: 0,
+        total: 0,
+        settled: vertices == 0,
+    };
+    while !answer.settled && answer.passes < limit as u64 {
+        answer.total = pass();
+        answer.passes += 1;
+        answer.settled = 1000 * answer.total < 256 * vertices as u64;
+    }
+    answer
+}
+
+/// Note 3: "Each contour is now settled by its own total and its own vertices, and
+/// a settled contour gets no further pass. The pass limit holds for each."
+pub fn smooth_contour(
+    rule: Rule,
+    layer: &Layer,
+    contour: &[usize],
+    table: &mut [u16],
+    limit: u16,
+) -> Smoothed {
+    until_settled(contour.len(), limit, || pass(rule, layer, contour, table))
+}
+
+/// "The answer gives the largest number of passes of any contour, the sum of their
+/// last totals, and settled if all are." Without contours: 0, 0 and settled.
+pub fn joined(answers: &[Smoothed]) -> Smoothed {
+    Smoothed {
+        passes: answers
+            .iter()
+            .map(|answer| answer.passes)
+            .max()
+            .unwrap_or(0),
+        total: answers.iter().map(|answer| answer.total).sum(),
+        settled: answers.iter().all(|answer| answer.settled),
+    }
+}
+
+/// "Contours are smoothed whole", in the order in which they are given; the answer
+/// of each.
+pub fn smooth_each(
+    rule: Rule,
+    layer: &Layer,
+    contours: &[Contour],
+    table: &mut [u16],
+    limit: u16,
+) -> Vec<Smoothed> {
+    contours
+        .iter()
+        .map(|contour| smooth_contour(rule, layer, contour, table, limit))
+        .collect()
+}
+
+/// The call. Questions 1 to 7 and 15.
 pub fn smooth(
     w: u16,
     h: u16,
@@ -86,16 +140,28 @@ pub fn smooth_by(
 ) -> Result<Smoothed, Refusal> {
     let (layer, contours) = ask_1_to_7(w, h, bitmap, table)?;
     ask_all_kept(table)?;
-    let vertices: usize = contours.iter().map(|contour| contour.len()).sum();
-    let mut answer = Smoothed {
-        passes: 0,
-        total: 0,
-        settled: vertices == 0,
-    };
-    while !answer.settled && answer.passes < limit as u64 {
-        answer.total = pass(rule, &layer, &contours, table);
-        answer.passes += 1;
-        answer.settled = 1000 * answer.total < 256 * vertices as u64;
-    }
-    Ok(answer)
+    Ok(joined(&smooth_each(rule, &layer, &contours, table, limit)))
+}
+
+/// The paper's rule for one vertex, with "a half upward" where Note 2 has it go
+/// toward 128: the floor of x and a half, where x is old + 2/5 (v - old).
+pub fn half_upward(old: u8, v: Fraction) -> u8 {
+    (6 * v.den * old as i128 + 4 * v.num + 5 * v.den).div_euclid(10 * v.den) as u8
+}
+
+/// Smooth as the paper has it, on a layer that passes the questions: a half goes
+/// upward, a pass visits all contours, and "smoothing is settled after a pass with
+/// 1000×total < 256×vertices, taken over the layer, or before any pass if there are
+/// no vertices".
+pub fn smooth_former(
+    layer: &Layer,
+    contours: &[Contour],
+    table: &mut [u16],
+    limit: u16,
+) -> Smoothed {
+    let vertices = contours.iter().map(|contour| contour.len()).sum();
+    until_settled(vertices, limit, || {
+        let one = |contour: &Contour| pass(half_upward, layer, contour, table);
+        contours.iter().map(one).sum()
+    })
 }

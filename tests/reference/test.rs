@@ -18,7 +18,8 @@ use crate::planner::planner;
 use crate::prng::Rng;
 use crate::script::{parse, Command};
 use crate::sets::{script, SETS};
-use crate::smooth::{new_offset, smooth_by};
+use crate::settling;
+use crate::smooth::{half_upward, new_offset, smooth_by};
 
 /// What is wrong is collected here.
 type Wrong = Vec<String>;
@@ -64,12 +65,6 @@ fn lies_on_line(a: Point, b: Point, v: Fraction, origin: Point, kind: u8) -> boo
     let x = origin.x * v.den + along.0 - a.x * v.den;
     let y = origin.y * v.den + along.1 - a.y * v.den;
     x * (b.y - a.y) == y * (b.x - a.x)
-}
-
-/// The rule for one vertex as the paper has it, with "a half upward" where Note 2
-/// has it go toward 128: the floor of x and a half, where x is old + 2/5 (v - old).
-fn half_upward(old: u8, v: Fraction) -> u8 {
-    (6 * v.den * old as i128 + 4 * v.num + 5 * v.den).div_euclid(10 * v.den) as u8
 }
 
 /// The new offset is the whole number nearest to x, and of two that are equally
@@ -484,17 +479,6 @@ fn refusals_write_nothing(wrong: &mut Wrong, commands: &[Command]) {
     }
 }
 
-/// "1000×total < 256×vertices": at 500 vertices a total of 128 is not below, 124
-/// is; the set for Smooth has both.
-fn settling(wrong: &mut Wrong) {
-    let bytes = script("smooth", None).expect("the set has this name");
-    let lines = answers(&parse(&bytes).expect("a set is a good script"));
-    for start in ["S 0 0 1 124 1 ", "S 0 0 1 128 0 "] {
-        let found = lines.lines().any(|line| line.starts_with(start));
-        expect(wrong, found, || format!("no answer {}", start));
-    }
-}
-
 /// The set for Roll has each refusal 8 to 12 at the first command and at a later
 /// one, and a roll of thousands of commands.
 fn stops(wrong: &mut Wrong) {
@@ -586,7 +570,7 @@ pub fn wrong(seed: Option<u64>) -> Vec<String> {
     call_lists(&mut wrong, rng.next());
     orders(&mut wrong, rng.next());
     sets(&mut wrong, seed);
-    settling(&mut wrong);
+    wrong.extend(settling::wrong(&mut rng));
     stops(&mut wrong);
     order_shows(&mut wrong);
     wrong

@@ -30,10 +30,12 @@ pub const SLICE: &str = "\
 puzhenim slice IN -o SHEET [--passes N] [--tolerance T] [--pad]
 
 Traces the layer, smooths its contours, removes spare vertices and writes the
-sheet.
+sheet. Each contour is smoothed by itself until it is settled. Says how many
+passes a contour took at most, and whether all are settled.
 
   -o SHEET        where the sheet goes
-  --passes N      at most N smoothing passes, 0 to 65535 (default 100)
+  --passes N      at most N smoothing passes of each contour, 0 to 65535
+                  (default 100)
   --tolerance T   a removed vertex lies within T/256 of a sample's pitch of the
                   contour, T 0 to 255 (default 64)
   --pad           add an outside sample all round to a PBM
