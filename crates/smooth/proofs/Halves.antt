@@ -45,9 +45,8 @@ use Rattle.smooth.specs.Call.{Outcome, refusedWith, doneWith, smoothOf}
 use Rattle.smooth.specs.Former.{roundedUp, upwardAt, upwardVisit, formerPass, former, upwardContour, upwardSmooth, upwardOf}
 use Rattle.smooth.proofs.Neighbours.{OnSide}
 use Rattle.smooth.proofs.Steps.{previous-vertex, next-vertex, neighbours-around, visit-kept}
-use Rattle.smooth.proofs.Passes.{until-same, AllSticks, head-stick, tail-sticks, passContour-kept, contour-sticks, contourPass-kept, contour-kept}
+use Rattle.smooth.proofs.Passes.{smoothNext, smooth-is, until-same, AllSticks, head-stick, tail-sticks, passContour-kept, contour-sticks, contourPass-kept, contour-kept}
 use Rattle.smooth.proofs.Walking.{smoothable-kept}
-use Rattle.smooth.proofs.Rounds.{smoothNext, smooth-is}
 use Rattle.smooth.proofs.Held.{smoothable-of}
 
 -- ---- on numbers

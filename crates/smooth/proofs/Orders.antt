@@ -21,6 +21,7 @@ use Rattle.contour.proofs.Sticks.{laws}
 use Rattle.contour.proofs.Orders.{reordered, first-sticks-once}
 use Rattle.table.proofs.Local.{entry, Agree, agree-other, local-commute}
 use Rattle.smooth.specs.Smooth.{Smoothed, smoothContour, noContour, withContour, inTurn, smooth}
+use Rattle.smooth.proofs.Passes.{smoothNext, smooth-is}
 use Rattle.smooth.proofs.Locality.{SameAnswer, smoothContour-length, smoothContour-agree, smoothContour-local, other-contour}
 
 swap-last : (a b c : Bool) → (a && b && c) ≡ (a && c && b)
@@ -35,9 +36,9 @@ with-same a b =
     }
 
 module _ (L : Layer) (sound : Sound L) (limit : ℕ) where
-  -- one contour more, as `inTurn` has it
+  -- one contour more
   abbrev pub turn : Smoothed → Edge → Smoothed
-  turn s f = withContour s (smoothContour L limit (s .table) f)
+  turn s f = smoothNext L limit s f
 
   -- f is the first stick of a contour
   abbrev pub IsFirst : Edge → Type 0
@@ -147,8 +148,7 @@ module _ (L : Layer) (sound : Sound L) (limit : ℕ) where
     part-all (f ∷ l) s r p = part-all l _ _ (part-turn f l s r p)
 
     smoothed-all : Part [] (smooth L limit t) (eachAlone t)
-    unfolding smooth inTurn
-    smoothed-all = part-all (firstSticks L) (noContour t) (noContour t) part-start
+    smoothed-all = rw (smooth-is L limit t) (part-all (firstSticks L) (noContour t) (noContour t) part-start)
 
     -- each contour ends as if it had been smoothed alone, from the table as it was lent
     pub contour-alone : (f : Edge) → first (walkOf L) f ≡ true → (e : Edge) → OnContour (walkOf L) f e

@@ -13,11 +13,11 @@ use Rattle.grid.specs.Edges.{isStick}
 use Rattle.grid.specs.Questions.{Sound}
 use Rattle.grid.specs.declared.edge.Edge.{Edge}
 use Rattle.contour.specs.Walk.{occurrences}
-use Rattle.contour.specs.Contours.{walkOf, contourOf}
+use Rattle.contour.specs.Contours.{walkOf, contourOf, firstSticks}
 use Rattle.contour.proofs.Members.{on-one}
 use Rattle.contour.proofs.Sticks.{laws}
 use Rattle.table.proofs.AllKept.{AllKept}
-use Rattle.smooth.specs.Smooth.{Pass, passed, visit, passContour, contourPass, isSettled, Smoothed, further, until, unsmoothed, settle, smoothContour}
+use Rattle.smooth.specs.Smooth.{Pass, passed, visit, passContour, contourPass, isSettled, Smoothed, further, until, unsmoothed, settle, smoothContour, noContour, withContour, smooth}
 use Rattle.smooth.proofs.Steps.{visit-kept, visit-total}
 
 -- where smoothing stands, by its figures
@@ -32,6 +32,14 @@ pub contour-is : (L : Layer) (limit : ℕ) (t : List ℕ) (f : Edge)
     → smoothContour L limit t f ≡ settle (contourPass L f) (length (contourOf L f)) limit t
 unfolding smoothContour
 contour-is L limit t f = refl
+
+-- one contour more, and so all contours of a layer
+abbrev pub smoothNext : Layer → ℕ → Smoothed → Edge → Smoothed
+smoothNext L limit s f = withContour s (smoothContour L limit (s .table) f)
+
+pub smooth-is : (L : Layer) (limit : ℕ) (t : List ℕ) → smooth L limit t ≡ foldl (smoothNext L limit) (noContour t) (firstSticks L)
+unfolding smooth
+smooth-is L limit t = refl
 
 -- how passes go on: what a loop over them cites
 module _ (onePass : List ℕ → Pass) (vertices : ℕ) where

@@ -1,6 +1,6 @@
 -- Contours smoothed one after the other: that nothing is removed and the limit holds, and what a loop over them cites: the invariant
 -- `PartSmoothed`, the bound of the total, the next turn's, and the end.
-use mathlib.Core.Path.{_≡_, refl, sym, _∙_, ap, subst}
+use mathlib.Core.Path.{_≡_, sym, _∙_, ap, subst}
 use mathlib.Core.Bool.{Bool, true, false, _&&_, true≢false}
 use mathlib.Core.List.{List, [], _∷_, map, flatten, foldl}
 use Prim.Native.Nat.{ℕ, _+_, _*_, _≤_, _<_, max}
@@ -22,7 +22,7 @@ use Rattle.contour.proofs.Theorems.{first-sticks-only}
 use Rattle.contour.proofs.Cursors.{here-stick, here-left, none-left, fold-turn, fold-end}
 use Rattle.table.proofs.AllKept.{AllKept, passes-entries, passes-all-kept}
 use Rattle.smooth.specs.Smooth.{mostTotal, Smoothed, noContour, withContour, smoothContour, smooth, Smoothable, SmoothableAt}
-use Rattle.smooth.proofs.Passes.{standing, Kept, contour-kept, contour-passes}
+use Rattle.smooth.proofs.Passes.{standing, smoothNext, smooth-is, Kept, contour-kept, contour-passes}
 use Rattle.smooth.proofs.Sizes.{vertices-most}
 
 pub kept-smoothable : {L : Layer} {t : List ℕ} → Sound L → AllKept L t → Smoothable L t
@@ -33,14 +33,6 @@ kept-smoothable {L} {t} sound kept =
       entries = passes-entries L t kept sound;
       all-kept = passes-all-kept L t kept sound;
     }
-
--- one contour more
-abbrev pub smoothNext : Layer → ℕ → Smoothed → Edge → Smoothed
-smoothNext L limit s f = withContour s (smoothContour L limit (s .table) f)
-
-pub smooth-is : (L : Layer) (limit : ℕ) (t : List ℕ) → smooth L limit t ≡ foldl (smoothNext L limit) (noContour t) (firstSticks L)
-unfolding smooth
-smooth-is L limit t = refl
 
 -- ---- what comes of it: every vertex is kept, at an offset of 1 to 255, after it as before; and the limit
 

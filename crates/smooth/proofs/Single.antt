@@ -15,8 +15,7 @@ use Rattle.table.proofs.AllKept.{AllKept}
 use Rattle.smooth.specs.Smooth.{passed, passContour, Smoothed, settle, smoothContour, noContour, smooth}
 use Rattle.smooth.specs.Call.{smoothOf}
 use Rattle.smooth.specs.Former.{former, formerOf}
-use Rattle.smooth.proofs.Passes.{standing, contour-is, until-settled}
-use Rattle.smooth.proofs.Rounds.{smoothNext, smooth-is}
+use Rattle.smooth.proofs.Passes.{standing, contour-is, smoothNext, smooth-is, until-settled}
 use Rattle.smooth.proofs.Halves.{layerPass, former-layer, same-call}
 
 module _ {L : Layer} (sound : Sound L) (limit : ℕ) {t : List ℕ} (kept : AllKept L t) where
