@@ -1,4 +1,4 @@
--- The paper's cases on smoothing, by running the definitions.
+-- The paper's cases on smoothing, and a layer with two contours on which Note 3 and the paper differ, by running the definitions.
 use mathlib.Core.Path.{_≡_, refl}
 use mathlib.Core.Bool.{true, false, xor}
 use mathlib.Core.List.{List, [], _∷_}
@@ -12,6 +12,7 @@ use Rattle.contour.proofs.Examples.{square}
 use Rattle.table.specs.Entries.{entryOf}
 use Rattle.table.specs.Vertices.{offsetAt}
 use Rattle.smooth.specs.Smooth.{smooth}
+use Rattle.smooth.specs.Former.{former}
 
 -- "W 3, H 3, inside (1,1)", and the table with these offsets at "entries 2, 7, 3, 10 in contour order"
 abbrev pub single : Layer
@@ -48,3 +49,26 @@ pub no-vertices : (limit : ℕ) → smooth (layerOf (square 3) (0 ∷ 0 ∷ 0 �
 unfolding smooth firstsAmong edgeCount edgeAt isStick sample bit xor count
 no-vertices zero = refl
 no-vertices (suc limit) = refl
+
+-- W 5, H 4, inside (1,1) and (3,1), (2,2), (3,2): a contour of four vertices, and one of eight
+abbrev pub beside : Layer
+beside = layerOf (record { width = 5; height = 4 }) (0 ∷ 10 ∷ 12 ∷ 0 ∷ [])
+
+abbrev pub tracedBeside : List ℕ
+tracedBeside =
+    0 ∷ 0 ∷ 0 ∷ 0 ∷ 128 ∷ 128 ∷ 128 ∷ 128 ∷ 0 ∷ 128 ∷ 0 ∷ 128 ∷ 0 ∷ 0 ∷ 0 ∷ 0
+    ∷ 0 ∷ 128 ∷ 0 ∷ 128 ∷ 0 ∷ 0 ∷ 128 ∷ 128 ∷ 0 ∷ 0 ∷ 0 ∷ 0 ∷ 128 ∷ 128 ∷ 0 ∷ []
+
+-- The eleventh pass changes the longer contour alone, by 3: taken over the layer it is settled, as 1000×3 < 256×12; by itself the contour is not, as
+-- 256×8 is less, and goes on
+pub over-the-layer : let r = former beside 50 tracedBeside in (r .passes ≡ 11) × (r .total ≡ 3) × (r .settled ≡ true)
+unfolding former firstsAmong number edgeCount edgeAt isStick sample bit next prev xor entryOf offsetAt count
+over-the-layer = (refl, refl, refl)
+
+pub by-contour : let r = smooth beside 50 tracedBeside in (r .passes ≡ 12) × (r .total ≡ 2) × (r .settled ≡ true)
+unfolding smooth firstsAmong number edgeCount edgeAt isStick sample bit next prev xor entryOf offsetAt
+by-contour = (refl, refl, refl)
+
+pub by-contour-eleven : let r = smooth beside 11 tracedBeside in (r .passes ≡ 11) × (r .settled ≡ false)
+unfolding smooth firstsAmong number edgeCount edgeAt isStick sample bit next prev xor entryOf offsetAt
+by-contour-eleven = (refl, refl)
