@@ -1,6 +1,6 @@
 // Smooth: each contour by passes along it, in which a vertex is drawn two fifths
 // of the way towards the segment between its neighbours, until the contour is
-// settled or at the limit. And Smooth as the paper had it before Notes 2 and 3.
+// settled or at the limit. And Smooth as the paper has it, without Notes 2 and 3.
 
 use std::cmp::Ordering;
 

@@ -2,9 +2,9 @@
 -- cells beside a stick meets it at no such v. So Smooth is the same wherever a half goes, also with the paper's "a half upward" (specs/Former),
 -- and so is the paper's rule.
 use mathlib.Core.Path.{_≡_, refl, sym, _∙_, ap}
-use mathlib.Core.Bool.{true, false}
+use mathlib.Core.Bool.{true}
 use mathlib.Core.List.{List, [], _∷_, foldl}
-use Prim.Native.Nat.{ℕ, zero, suc, _+_, _*_, _/_, _<_}
+use Prim.Native.Nat.{ℕ, _+_, _*_, _/_, _<_}
 use native.Mathlib.Decide.{decLt}
 use native.Mathlib.Omega.{arith}
 use lib.ListN.{length}
@@ -148,7 +148,8 @@ module _ {L : Layer} (sound : Sound L) where
 
   -- ---- smoothing
 
-  pub upward-contour : (limit : ℕ) (f : Edge) → isStick L f ≡ true → {t : List ℕ} → AllKept L t → upwardContour L limit t f ≡ smoothContour L limit t f
+  pub upward-contour : (limit : ℕ) (f : Edge) → isStick L f ≡ true → {t : List ℕ} → AllKept L t
+      → upwardContour L limit t f ≡ smoothContour L limit t f
   unfolding upwardContour smoothContour
   upward-contour limit f stick {t} kept =
       until-same (length (contourOf L f)) (AllKept L)

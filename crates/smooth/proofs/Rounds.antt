@@ -1,6 +1,6 @@
 -- Contours smoothed one after the other: that nothing is removed and the limit holds, and what a loop over them cites: the invariant
 -- `PartSmoothed`, the bound of the total, the next turn's, and the end.
-use mathlib.Core.Path.{_≡_, sym, _∙_, ap, subst}
+use mathlib.Core.Path.{_≡_, sym, _∙_, ap}
 use mathlib.Core.Bool.{Bool, true, false, _&&_, true≢false}
 use mathlib.Core.List.{List, [], _∷_, map, flatten, foldl}
 use Prim.Native.Nat.{ℕ, _+_, _*_, _≤_, _<_, max}
@@ -57,15 +57,18 @@ module _ (L : Layer) (limit : ℕ) where
 
   contours-within : (l : List Edge) (s : Smoothed) → WithinLimit s → WithinLimit (foldl (smoothNext L limit) s l)
   contours-within [] s w = w
-  contours-within (f ∷ l) s w =
-      let one = contour-passes L limit (s .table) f in
-      contours-within l (smoothNext L limit s f)
-      (record {
-        passes-most = omega (arith, w .passes-most, one .0);
-        passes-all = λ y. both-sides (s .settled)
-            (λ (all : s .settled ≡ true). omega (arith, w .passes-most, one .1 (sym (ap (λ (b : Bool). b && smoothContour L limit (s .table) f .settled) all) ∙ y)))
-            (λ (not-all : s .settled ≡ false). omega (arith, w .passes-all not-all, one .0));
-      })
+  contours-within (f ∷ l) s w = contours-within l (smoothNext L limit s f) (record { passes-most = omega (arith, w .passes-most, one .0); passes-all = all })
+    where
+      r : Smoothed
+      r = smoothContour L limit (s .table) f
+
+      one : (r .passes ≤ limit) × (r .settled ≡ false → r .passes ≡ limit)
+      one = contour-passes L limit (s .table) f
+
+      all : (s .settled && r .settled) ≡ false → max (s .passes) (r .passes) ≡ limit
+      all y = both-sides (s .settled)
+          (λ so-far. omega (arith, w .passes-most, one .1 (sym (ap (λ (b : Bool). b && r .settled) so-far) ∙ y)))
+          (λ not-so-far. omega (arith, w .passes-all not-so-far, one .0))
 
   pub smooth-within : (t : List ℕ) → WithinLimit (smooth L limit t)
   smooth-within t =
@@ -94,7 +97,8 @@ smoothing-start {L} {limit} {t} sound o kept =
       still = ap (foldl (smoothNext L limit) (noContour t)) (o .left) ∙ sym (smooth-is L limit t);
     }
 
-module _ {L : Layer} {set : List ℕ} (firsts : FirstSet L set) {limit : ℕ} {t₀ : List ℕ} {s : Smoothed} {c : Cursor} (g : PartSmoothed L limit t₀ s c) where
+module _ {L : Layer} {set : List ℕ} (firsts : FirstSet L set) {limit : ℕ} {t₀ : List ℕ} {s : Smoothed} {c : Cursor}
+    (g : PartSmoothed L limit t₀ s c) where
   pub smoothing-end : c .more ≡ false → s ≡ smooth L limit t₀
   smoothing-end over = fold-end (smoothNext L limit) s (smooth L limit t₀) (none-left firsts (g .placed) over) (g .still)
 

@@ -6,7 +6,7 @@ use contour::next_contour;
 use grid::Edge;
 use grid::Size;
 ghost use mathlib.Core.Path.{_≡_};
-ghost use Prim.Native.Nat.{_≤_, _<_, max};
+ghost use Prim.Native.Nat.{_≤_, max};
 ghost use Rattle.grid.specs.Layer.{layerOf};
 ghost use Rattle.contour.specs.Sets.{FirstSet};
 ghost use Rattle.smooth.specs.Smooth.{isSettled, mostVertices, mostTotal, smoothContour, smooth, Smoothable, SmoothableAt};

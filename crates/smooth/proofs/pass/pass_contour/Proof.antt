@@ -157,7 +157,7 @@ pub pass-contour-spec : {M : Type 1} → statement M
 pass-contour-spec =
     tie.close
     (tie.spec Inv-loop μ-loop number-of-requires
-    (λ c κs. let given = first (c .before .before .before .before) in (given .sound, given .stick)) vertex-at-requires loop-holds (λ c κs. let given = here c in (given .sound, given .stick)) number-of-requires-2 mul-offset-of
-    slice-read-offset-of offset-of-requires (λ c κs. stick-near (there (c .before .before .before))) visit-requires add-total add-vertices
-    (λ c κs. stick-near (here (turn (c .before .before .before)))) loop-less loop-again
-    same-length returns)
+    (λ c κs. let given = first (c .before .before .before .before) in (given .sound, given .stick)) vertex-at-requires loop-holds
+    (λ c κs. let given = here c in (given .sound, given .stick)) number-of-requires-2 mul-offset-of slice-read-offset-of offset-of-requires
+    (λ c κs. stick-near (there (c .before .before .before))) visit-requires add-total add-vertices
+    (λ c κs. stick-near (here (turn (c .before .before .before)))) loop-less loop-again same-length returns)
