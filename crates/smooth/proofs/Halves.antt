@@ -16,10 +16,8 @@ use Rattle.arith.proofs.Nearest.{half-scaled}
 use Rattle.arith.proofs.Parity.{odd-divides, odd-never}
 use Rattle.grid.specs.Layer.{Layer}
 use Rattle.grid.specs.Edges.{isStick}
-use Rattle.grid.specs.Questions.{Sound, firstNo, ifAllYes}
+use Rattle.grid.specs.Questions.{Sound}
 use Rattle.grid.specs.declared.edge.Edge.{Edge}
-use Rattle.grid.specs.declared.question.Answer.{Answer}
-use Rattle.grid.specs.declared.question.Answer.the-variants.{Yes, No}
 use Rattle.mask.specs.Counts.{stickCount}
 use Rattle.step.specs.Walk.{next, prev}
 use Rattle.contour.specs.Walk.{walked}
@@ -35,19 +33,17 @@ use Rattle.table.specs.Vertices.{offsetAt}
 use Rattle.table.specs.Stores.{slid}
 use Rattle.table.proofs.AllKept.{AllKept}
 use Rattle.drawn.specs.Drawn.{vertex}
-use Rattle.held.specs.Questions.{keptQuestions}
 use Rattle.offset.specs.Offset.{unrounded, spread, shift, signedBy, offsetBy, newOffset, Around}
 use Rattle.offset.proofs.Rounding.{unrounded-scaled, rounded-upward}
 use Rattle.offset.proofs.Meeting.{spread-is, shift-is, meets-at}
 use Rattle.offset.proofs.Offsets.{spread-some}
 use Rattle.smooth.specs.Smooth.{smoothedAt, Pass, passed, visit, passContour, contourPass, Smoothed, unsmoothed, settle, smoothContour, noContour, withContour, inTurn, smooth}
-use Rattle.smooth.specs.Call.{Outcome, refusedWith, doneWith, smoothOf}
+use Rattle.smooth.specs.Call.{smoothOf}
 use Rattle.smooth.specs.Former.{roundedUp, upwardAt, upwardVisit, formerPass, former, upwardContour, upwardSmooth, upwardOf}
 use Rattle.smooth.proofs.Neighbours.{OnSide}
 use Rattle.smooth.proofs.Steps.{previous-vertex, next-vertex, neighbours-around, visit-kept}
 use Rattle.smooth.proofs.Passes.{smoothNext, smooth-is, until-same, AllSticks, head-stick, tail-sticks, passContour-kept, contour-sticks, contourPass-kept, contour-kept}
-use Rattle.smooth.proofs.Walking.{smoothable-kept}
-use Rattle.smooth.proofs.Held.{smoothable-of}
+use Rattle.smooth.proofs.Held.{same-call}
 
 -- ---- on numbers
 
@@ -185,19 +181,6 @@ module _ {L : Layer} (sound : Sound L) where
     where
       all : AllSticks L (walked (walkOf L))
       all = walked-one (walkOf L) (laws L sound)
-
--- two rules that give the same on tables with all vertices kept make the same call, whatever is lent
-pub same-call : (L : Layer) (t : List ℕ) (one other : Smoothed) → (Sound L → AllKept L t → one ≡ other)
-    → ifAllYes (firstNo (keptQuestions L t)) (λ q place. refusedWith q place t) (doneWith one)
-    ≡ ifAllYes (firstNo (keptQuestions L t)) (λ q place. refusedWith q place t) (doneWith other)
-same-call L t one other same = by (firstNo (keptQuestions L t)) refl
-  where
-    call : Answer → Smoothed → Outcome
-    call answer s = ifAllYes answer (λ q place. refusedWith q place t) (doneWith s)
-
-    by : (answer : Answer) → firstNo (keptQuestions L t) ≡ answer → call answer one ≡ call answer other
-    by Yes e = let given = smoothable-of L t e in ap doneWith (same (given .sound) (smoothable-kept given))
-    by (No q place) e = refl
 
 -- no layer, limit or table tells a half upward from one toward 128
 pub same-smoothing : (L : Layer) (limit : ℕ) (t : List ℕ) → upwardOf L limit t ≡ smoothOf L limit t

@@ -1,20 +1,20 @@
--- What a yes to Smooth's questions says, and that Smooth keeps a layer held: what it leaves passes questions 1 to 7 and 15 again, since nothing
--- is removed; and whatever the answer is, an accepted table stays one.
+-- What a yes to Smooth's questions says, and what comes of the call; that Smooth keeps a layer held: what it leaves passes questions 1 to 7 and
+-- 15 again, since nothing is removed; and whatever the answer is, an accepted table stays one.
 use mathlib.Core.Path.{_≡_, refl, sym, _∙_, ap}
 use mathlib.Core.List.{List}
 use Prim.Native.Nat.{ℕ}
 use Rattle.grid.specs.Layer.{Layer}
-use Rattle.grid.specs.Questions.{firstNo, ifAllYes}
+use Rattle.grid.specs.Questions.{Sound, firstNo, ifAllYes}
 use Rattle.grid.specs.declared.question.Refusal.{Refusal}
 use Rattle.grid.specs.declared.question.Answer.{Answer}
 use Rattle.grid.specs.declared.question.Answer.the-variants.{Yes, No}
 use Rattle.table.specs.Kept.{allKeptAnswer}
-use Rattle.table.proofs.AllKept.{passes-all-kept}
+use Rattle.table.proofs.AllKept.{AllKept, passes-all-kept}
 use Rattle.held.specs.Questions.{keptQuestions, Accepted}
 use Rattle.held.proofs.Holding.{all-kept-accepted}
 use Rattle.held.proofs.Asking.{kept-of-yes}
-use Rattle.smooth.specs.Smooth.{smooth, Smoothable}
-use Rattle.smooth.specs.Call.{Outcome, refusedWith, doneWith, smoothOf}
+use Rattle.smooth.specs.Smooth.{Smoothed, smooth, Smoothable}
+use Rattle.smooth.specs.Call.{Outcome, refusedWith, doneWith, asked, smoothOf}
 use Rattle.smooth.proofs.Walking.{smoothable-kept}
 use Rattle.smooth.proofs.Rounds.{smooth-kept}
 
@@ -38,6 +38,18 @@ module _ (L : Layer) (limit : ℕ) (t : List ℕ) where
 
   pub outcome-refused : {q : Refusal} {place : ℕ} → firstNo (keptQuestions L t) ≡ No q place → refusedWith q place t ≡ smoothOf L limit t
   outcome-refused {q} {place} e = sym (outcome-is L limit t (No q place) e)
+
+-- two rules that give the same on tables with all vertices kept make the same call, whatever is lent
+pub same-call : (L : Layer) (t : List ℕ) (one other : Smoothed) → (Sound L → AllKept L t → one ≡ other)
+    → asked L t one ≡ asked L t other
+same-call L t one other same = by (firstNo (keptQuestions L t)) refl
+  where
+    call : Answer → Smoothed → Outcome
+    call answer s = ifAllYes answer (λ q place. refusedWith q place t) (doneWith s)
+
+    by : (answer : Answer) → firstNo (keptQuestions L t) ≡ answer → call answer one ≡ call answer other
+    by Yes e = let given = smoothable-of L t e in ap doneWith (same (given .sound) (smoothable-kept given))
+    by (No q place) e = refl
 
 -- a layer and a table that pass questions 1 to 7 and 15 pass them again after Smooth
 pub smooth-held : (L : Layer) (limit : ℕ) (t : List ℕ) → firstNo (keptQuestions L t) ≡ Yes

@@ -16,7 +16,8 @@ use Rattle.smooth.specs.Smooth.{passed, passContour, Smoothed, settle, s
 use Rattle.smooth.specs.Call.{smoothOf}
 use Rattle.smooth.specs.Former.{former, formerOf}
 use Rattle.smooth.proofs.Passes.{standing, contour-is, smoothNext, smooth-is, until-settled}
-use Rattle.smooth.proofs.Halves.{layerPass, former-layer, same-call}
+use Rattle.smooth.proofs.Held.{same-call}
+use Rattle.smooth.proofs.Halves.{layerPass, former-layer}
 
 module _ {L : Layer} (sound : Sound L) (limit : ℕ) {t : List ℕ} (kept : AllKept L t) where
   -- passes over the sticks of a list, settled by their number

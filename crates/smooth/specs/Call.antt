@@ -28,11 +28,14 @@ abbrev pub doneWith : Smoothed → Outcome
 doneWith s =
     record { refusal = 0; place = 0; passes = s .passes; total = s .total; settled = s .settled; table = s .table }
 
--- Smooth of a layer, with a pass limit, on the table t that it is lent: questions 1 to 7 and 15
+-- questions 1 to 7 and 15, put to a layer and the table t that is lent; where all are answered yes, s comes of the call
+abbrev pub asked : Layer → List ℕ → Smoothed → Outcome
+asked L t s = ifAllYes (firstNo (keptQuestions L t)) (λ q place. refusedWith q place t) (doneWith s)
+
+-- Smooth of a layer, with a pass limit, on the table t that it is lent
 unfoldable pub smoothOf : Layer → ℕ → List ℕ → Outcome
 unfolding smooth
-smoothOf L limit t =
-    ifAllYes (firstNo (keptQuestions L t)) (λ q place. refusedWith q place t) (doneWith (smooth L limit t))
+smoothOf L limit t = asked L t (smooth L limit t)
 
 -- what an answer and a table at exit say
 abbrev pub outcome : Smoothing → List ℕ → Outcome

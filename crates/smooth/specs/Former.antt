@@ -8,7 +8,6 @@ use lib.IntN.{ℤ}
 use lib.ListN.{length}
 use Rattle.arith.specs.Nearest.{nearestUp}
 use Rattle.grid.specs.Layer.{Layer}
-use Rattle.grid.specs.Questions.{firstNo, ifAllYes}
 use Rattle.grid.specs.declared.edge.Edge.{Edge}
 use Rattle.mask.specs.Counts.{stickCount}
 use Rattle.step.specs.Walk.{next, prev}
@@ -17,10 +16,9 @@ use Rattle.chord.specs.Crossing.{distance}
 use Rattle.table.specs.Vertices.{offsetAt}
 use Rattle.table.specs.Stores.{slid}
 use Rattle.drawn.specs.Drawn.{vertex}
-use Rattle.held.specs.Questions.{keptQuestions}
 use Rattle.offset.specs.Offset.{unrounded, offsetBy}
 use Rattle.smooth.specs.Smooth.{Pass, passed, Smoothed, until, settle, inTurn}
-use Rattle.smooth.specs.Call.{Outcome, refusedWith, doneWith}
+use Rattle.smooth.specs.Call.{Outcome, asked}
 
 -- "rounded once to the nearest whole number, a half upward"
 unfoldable pub roundedUp : ℕ → ℤ → ℕ → ℤ
@@ -53,8 +51,7 @@ former L limit t = settle (formerPass L) (stickCount L) limit t
 
 unfoldable pub formerOf : Layer → ℕ → List ℕ → Outcome
 unfolding former
-formerOf L limit t =
-    ifAllYes (firstNo (keptQuestions L t)) (λ q place. refusedWith q place t) (doneWith (former L limit t))
+formerOf L limit t = asked L t (former L limit t)
 
 -- ---- a half upward, and settled contour by contour
 
@@ -71,5 +68,4 @@ upwardSmooth L limit t = inTurn (upwardContour L limit) t (firstSticks L)
 
 unfoldable pub upwardOf : Layer → ℕ → List ℕ → Outcome
 unfolding upwardSmooth
-upwardOf L limit t =
-    ifAllYes (firstNo (keptQuestions L t)) (λ q place. refusedWith q place t) (doneWith (upwardSmooth L limit t))
+upwardOf L limit t = asked L t (upwardSmooth L limit t)
