@@ -33,7 +33,7 @@ pub struct Smoothed {
     pub passes: u64,
     /// The changes of each contour's last pass, summed up over all contours, in 1/256 of the pitch.
     pub total: u64,
-    /// Whether every contour's last pass changed too little to go on; if not, some contour met the limit.
+    /// Whether every contour is settled; if not, some contour met the limit.
     pub settled: bool,
 }
 

@@ -109,7 +109,7 @@ fn limits() -> Vec<Check> {
     checks
 }
 
-/// Note 3: "Each contour is now settled by its own total and its own vertices." Of
+/// Note 3: "Each contour is now settled by its own total and its own vertices". Of
 /// four single samples three are where their tenth pass leaves them, and have totals
 /// of 0. So the fourth, wherever it stands, makes the answer, that of the paper's
 /// single sample; over the layer the 4 of its ninth pass would be settled, as

@@ -10,7 +10,7 @@ use crate::hold::{ask_1_to_7, ask_all_kept, offset, vertex_of};
 use crate::layer::{Layer, Refusal};
 
 /// "The answer is passes, last total (0 if none) and settled or limit", of one
-/// contour or of a layer.
+/// contour; of a layer see `joined`.
 #[derive(Clone, Copy, PartialEq, Eq, Debug)]
 pub struct Smoothed {
     pub passes: u64,

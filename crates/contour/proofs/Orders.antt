@@ -1,5 +1,5 @@
--- Orders of a walk's elements: a fold gives the same over two lists with the same elements, if any two different ones commute; and the list of first
--- elements has each of them once. So work that is done contour by contour may be done in any order of the contours, where two commute.
+-- Orders of a walk's elements: a fold gives the same over two lists that have each element equally often, if any two different ones commute; and the
+-- list of first elements has each of them once. So work that is done contour by contour may be done in any order of the contours, where two commute.
 use mathlib.Core.Path.{_≡_, refl, sym, _∙_, ap}
 use mathlib.Core.Logic.{_≢_, inl, inr}
 use mathlib.Core.Bool.{true≢false}
@@ -38,7 +38,8 @@ module _ (w : Walk) (law : Laws w) where
       behind : Around x l → Around x (y ∷ l)
       behind p = record { before = y ∷ p .before; after = p .after; whole = ap (λ (m : List A). y ∷ m) (p .whole) }
 
-  -- Folds over the same elements in another order. Two different elements have to commute only where the state is `Ok`, and only those `In` a list.
+  -- Folds over the same elements in another order. Two different elements have to commute only where the state is `Ok`, and only if both are `In`, as all
+  -- in the lists are.
 
   module _ {S : Type 0} (step : S → A → S) (Ok : S → Type 0) (In : A → Type 0)
       (keeps : (s : S) (x : A) → Ok s → In x → Ok (step s x))
@@ -59,7 +60,7 @@ module _ (w : Walk) (law : Laws w) where
         swapped in-y =
             both-sides (same y x) (λ t. rw (law .same-eq y x t) refl) (λ u. commute s y x ok in-y in-x (unlike w law y x u))
 
-    pub reordered : (l m : List A) → ((x : A) → 0 < occurrences w x l → In x) → ((y : A) → occurrences w y l ≡ occurrences w y m) → (s : S) → Ok s
+    pub reordered : (l m : List A) → AllIn l → ((y : A) → occurrences w y l ≡ occurrences w y m) → (s : S) → Ok s
         → foldl step s l ≡ foldl step s m
     unfolding occurrences
     reordered [] [] h counts s ok = refl
@@ -101,6 +102,6 @@ module _ (w : Walk) (law : Laws w) where
         | inr o ↦ absurd (true≢false (sym (firsts-only w law y o) ∙ n))
       ])
 
--- the order that the paper gives is one
+-- the order that the paper gives is such an order
 pub first-sticks-once : (L : Layer) → Sound L → EachFirstOnce L (firstSticks L)
 first-sticks-once L sound = firsts-once (walkOf L) (laws L sound)

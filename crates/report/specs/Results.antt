@@ -45,7 +45,7 @@ countsResult o =
       buffers = tt;
     }
 
--- Smooth: place, passes, total, 1 for settled
+-- Smooth: place, most passes of a contour, sum of the last totals, 1 if all are settled
 abbrev pub smoothResult : Smooth.Outcome → Result (List ℕ)
 smoothResult o =
     record {

@@ -1,5 +1,5 @@
 -- Contours do not touch each other's entries: simplifying one changes no entry of another, and what it does depends on its own entries
--- alone. So the contours may be simplified in any order.
+-- alone. So of two contours it does not matter which is simplified first.
 use mathlib.Core.Path.{_≡_, sym, _∙_, ap}
 use mathlib.Core.Logic.{_≢_}
 use mathlib.Core.Bool.{true}

@@ -1,6 +1,6 @@
 -- An exact half never occurs in a smoothing step: 4·v would be an odd whole number, and the segment between vertices of other sides of the two
--- cells beside a stick meets it at no such v. So Smooth is the same wherever a half goes, also with the paper's "a half upward" (specs/Former),
--- and so is the paper's rule.
+-- cells beside a stick meets it at no such v. So Smooth is the same with the paper's "a half upward" (specs/Former), and the paper's rule the same
+-- with Note 2's rounding.
 use mathlib.Core.Path.{_≡_, refl, sym, _∙_, ap}
 use mathlib.Core.Bool.{true}
 use mathlib.Core.List.{List, [], _∷_, foldl}
@@ -22,11 +22,9 @@ use Rattle.mask.specs.Counts.{stickCount}
 use Rattle.step.specs.Walk.{next, prev}
 use Rattle.contour.specs.Walk.{walked}
 use Rattle.contour.specs.Contours.{walkOf, contourOf, firstSticks, contoursOf}
-use Rattle.contour.proofs.First.{first-one}
 use Rattle.contour.proofs.Outer.{foldl-flatten}
 use Rattle.contour.proofs.Contours.{walked-one}
 use Rattle.contour.proofs.Sticks.{laws}
-use Rattle.contour.proofs.Theorems.{first-sticks-only}
 use Rattle.chord.specs.Points.{Position, Point, Meets, slide}
 use Rattle.chord.specs.Crossing.{base, distance, off, along, meeting}
 use Rattle.table.specs.Vertices.{offsetAt}
@@ -43,6 +41,7 @@ use Rattle.smooth.specs.Former.{roundedUp, upwardAt, upwardVisit, former
 use Rattle.smooth.proofs.Neighbours.{OnSide}
 use Rattle.smooth.proofs.Steps.{previous-vertex, next-vertex, neighbours-around, visit-kept}
 use Rattle.smooth.proofs.Passes.{smoothNext, smooth-is, until-same, AllSticks, head-stick, tail-sticks, passContour-kept, contour-sticks, contourPass-kept, contour-kept}
+use Rattle.smooth.proofs.Rounds.{firsts-sticks}
 use Rattle.smooth.proofs.Held.{same-call}
 
 -- ---- on numbers
@@ -112,6 +111,10 @@ module _ {p q : Position} {e : Edge} {old : ℕ} (around : Around p q e old)
   unfolding newOffset roundedUp
   same-offset = sym (ap positivePart (rounded-upward old n d (spread-some around) no-half))
 
+-- a pass by Smooth's step over all contours, as one list of sticks
+abbrev pub layerPass : Layer → List ℕ → Pass
+layerPass L t = passContour L (passed t 0) (walked (walkOf L))
+
 module _ {L : Layer} (sound : Sound L) where
   module _ {t : List ℕ} (kept : AllKept L t) (e : Edge) (stick : isStick L e ≡ true) where
     -- with v in the paper's words, at any point of the segment between the neighbours and the closed stick
@@ -121,7 +124,7 @@ module _ {L : Layer} (sound : Sound L) where
         no-half-at (neighbours-around sound kept e stick)
         (previous-vertex sound kept e stick .on-side) (next-vertex sound kept e stick .on-side)
 
-    pub upward-step : upwardAt L t e ≡ smoothedAt L t e
+    upward-step : upwardAt L t e ≡ smoothedAt L t e
     upward-step =
         same-offset (neighbours-around sound kept e stick)
         (previous-vertex sound kept e stick .on-side) (next-vertex sound kept e stick .on-side)
@@ -134,7 +137,7 @@ module _ {L : Layer} (sound : Sound L) where
 
   -- ---- a pass over any sticks: a contour's, or those of all contours
 
-  pub upward-visits : (c : List Edge) → AllSticks L c → (s : Pass) → AllKept L (s .table) → foldl (upwardVisit L) s c ≡ passContour L s c
+  upward-visits : (c : List Edge) → AllSticks L c → (s : Pass) → AllKept L (s .table) → foldl (upwardVisit L) s c ≡ passContour L s c
   unfolding passContour
   upward-visits [] h s kept = refl
   upward-visits (e ∷ c) h s kept =
@@ -144,7 +147,7 @@ module _ {L : Layer} (sound : Sound L) where
 
   -- ---- smoothing
 
-  pub upward-contour : (limit : ℕ) (f : Edge) → isStick L f ≡ true → {t : List ℕ} → AllKept L t
+  upward-contour : (limit : ℕ) (f : Edge) → isStick L f ≡ true → {t : List ℕ} → AllKept L t
       → upwardContour L limit t f ≡ smoothContour L limit t f
   unfolding upwardContour smoothContour
   upward-contour limit f stick {t} kept =
@@ -161,23 +164,20 @@ module _ {L : Layer} (sound : Sound L) where
       ap (λ (r : Smoothed). foldl (λ q g. withContour q (upwardContour L limit (q .table) g)) (withContour s r) l) (upward-contour limit f stick kept)
       ∙ upward-contours limit l (tail-sticks sound f l h) (smoothNext L limit s f) (contour-kept sound f stick limit kept .kept)
 
-  pub upward-smooth : (limit : ℕ) {t : List ℕ} → AllKept L t → upwardSmooth L limit t ≡ smooth L limit t
+  upward-smooth : (limit : ℕ) {t : List ℕ} → AllKept L t → upwardSmooth L limit t ≡ smooth L limit t
   unfolding upwardSmooth inTurn
   upward-smooth limit {t} kept =
-      upward-contours limit (firstSticks L) (λ f o. first-one (walkOf L) (laws L sound) f (first-sticks-only L sound f o)) (noContour t) kept
+      upward-contours limit (firstSticks L) (firsts-sticks sound) (noContour t) kept
       ∙ sym (smooth-is L limit t)
 
-  -- the paper's rule with Note 2's rounding, which stood between the two notes: passes over all contours as one list of sticks
-  abbrev pub layerPass : List ℕ → Pass
-  layerPass t = passContour L (passed t 0) (walked (walkOf L))
-
-  pub former-layer : (limit : ℕ) {t : List ℕ} → AllKept L t → former L limit t ≡ settle layerPass (stickCount L) limit t
+  -- the paper's rule is the same with Note 2's rounding
+  pub former-layer : (limit : ℕ) {t : List ℕ} → AllKept L t → former L limit t ≡ settle (layerPass L) (stickCount L) limit t
   unfolding former formerPass
   former-layer limit {t} kept =
       until-same (stickCount L) (AllKept L)
       (λ u h. foldl-flatten (upwardVisit L) (passed u 0) (contoursOf L) ∙ upward-visits (walked (walkOf L)) all (passed u 0) h)
       (λ u h. passContour-kept sound (walked (walkOf L)) all (passed u 0) h)
-      limit (unsmoothed layerPass (stickCount L) t) kept
+      limit (unsmoothed (layerPass L) (stickCount L) t) kept
     where
       all : AllSticks L (walked (walkOf L))
       all = walked-one (walkOf L) (laws L sound)

@@ -4,7 +4,7 @@ use mathlib.Core.Path.{_≡_, refl, sym, _∙_, ap}
 use mathlib.Core.List.{List}
 use Prim.Native.Nat.{ℕ}
 use Rattle.grid.specs.Layer.{Layer}
-use Rattle.grid.specs.Questions.{Sound, firstNo, ifAllYes}
+use Rattle.grid.specs.Questions.{Sound, firstNo}
 use Rattle.grid.specs.declared.question.Refusal.{Refusal}
 use Rattle.grid.specs.declared.question.Answer.{Answer}
 use Rattle.grid.specs.declared.question.Answer.the-variants.{Yes, No}
@@ -14,7 +14,7 @@ use Rattle.held.specs.Questions.{keptQuestions, Accepted}
 use Rattle.held.proofs.Holding.{all-kept-accepted}
 use Rattle.held.proofs.Asking.{kept-of-yes}
 use Rattle.smooth.specs.Smooth.{Smoothed, smooth, Smoothable}
-use Rattle.smooth.specs.Call.{Outcome, refusedWith, doneWith, asked, smoothOf}
+use Rattle.smooth.specs.Call.{Outcome, refusedWith, doneWith, answered, asked, smoothOf}
 use Rattle.smooth.proofs.Walking.{smoothable-kept}
 use Rattle.smooth.proofs.Rounds.{smooth-kept}
 
@@ -27,10 +27,9 @@ smoothable-of L t e =
 
 -- what comes of the call, by the answer to its questions
 pub outcome-is : (L : Layer) (limit : ℕ) (t : List ℕ) (answer : Answer) → firstNo (keptQuestions L t) ≡ answer
-    → smoothOf L limit t ≡ ifAllYes answer (λ q place. refusedWith q place t) (doneWith (smooth L limit t))
+    → smoothOf L limit t ≡ answered answer t (smooth L limit t)
 unfolding smoothOf
-outcome-is L limit t answer e =
-    ap (λ (x : Answer). ifAllYes {A = Outcome} x (λ q place. refusedWith q place t) (doneWith (smooth L limit t))) e
+outcome-is L limit t answer e = ap (λ (x : Answer). answered x t (smooth L limit t)) e
 
 module _ (L : Layer) (limit : ℕ) (t : List ℕ) where
   pub outcome-done : firstNo (keptQuestions L t) ≡ Yes → {r : Outcome} → r ≡ doneWith (smooth L limit t) → r ≡ smoothOf L limit t
@@ -44,10 +43,7 @@ pub same-call : (L : Layer) (t : List ℕ) (one other : Smoothed) → (Sound L �
     → asked L t one ≡ asked L t other
 same-call L t one other same = by (firstNo (keptQuestions L t)) refl
   where
-    call : Answer → Smoothed → Outcome
-    call answer s = ifAllYes answer (λ q place. refusedWith q place t) (doneWith s)
-
-    by : (answer : Answer) → firstNo (keptQuestions L t) ≡ answer → call answer one ≡ call answer other
+    by : (answer : Answer) → firstNo (keptQuestions L t) ≡ answer → answered answer t one ≡ answered answer t other
     by Yes e = let given = smoothable-of L t e in ap doneWith (same (given .sound) (smoothable-kept given))
     by (No q place) e = refl
 

@@ -46,13 +46,13 @@ pub record SameAnswer (s r : Smoothed) : Type 0 where
 module _ (L : Layer) (sound : Sound L) where
   -- ---- what a pass over a list of sticks changes
 
-  pub passContour-length : (c : List Edge) (s : Pass) → length (passContour L s c .table) ≡ length (s .table)
+  passContour-length : (c : List Edge) (s : Pass) → length (passContour L s c .table) ≡ length (s .table)
   unfolding passContour
   passContour-length [] s = refl
   passContour-length (e ∷ c) s = passContour-length c (visit L s e) ∙ visit-length L s e
 
   -- no entry but those of the sticks in the list
-  pub passContour-elsewhere : (c : List Edge) (s : Pass) (k : ℕ) → ((e : Edge) → 0 < occurrences (walkOf L) e c → k ≢ number (L .size) e)
+  passContour-elsewhere : (c : List Edge) (s : Pass) (k : ℕ) → ((e : Edge) → 0 < occurrences (walkOf L) e c → k ≢ number (L .size) e)
       → getD (passContour L s c .table) k 0 ≡ getD (s .table) k 0
   unfolding passContour occurrences
   passContour-elsewhere [] s k n = refl
@@ -63,7 +63,7 @@ module _ (L : Layer) (sound : Sound L) where
   -- ---- what it reads
 
   module _ (f : Edge) (stick : isStick L f ≡ true) where
-    pub same-smoothed : {t u : List ℕ} → Agree L f t u → (e : Edge) → OnContour (walkOf L) f e → smoothedAt L t e ≡ smoothedAt L u e
+    same-smoothed : {t u : List ℕ} → Agree L f t u → (e : Edge) → OnContour (walkOf L) f e → smoothedAt L t e ≡ smoothedAt L u e
     same-smoothed a e on =
         rw (
           same-offset L f a e on,
@@ -80,7 +80,7 @@ module _ (L : Layer) (sound : Sound L) where
       visit-change = omega (arith, visit-sum L s e, visit-sum L r e, same-offset L f a e on, same-smoothed a e on)
 
     -- a pass over the contour, or a part of it: from tables that agree on the contour it gives tables that do, by the same changes
-    pub passContour-agree : (c : List Edge) → ((e : Edge) → 0 < occurrences (walkOf L) e c → OnContour (walkOf L) f e) → (s r : Pass)
+    passContour-agree : (c : List Edge) → ((e : Edge) → 0 < occurrences (walkOf L) e c → OnContour (walkOf L) f e) → (s r : Pass)
         → Agree L f (s .table) (r .table)
         → Agree L f (passContour L s c .table) (passContour L r c .table) × (passContour L s c .total + r .total ≡ passContour L r c .total + s .total)
     unfolding passContour occurrences
@@ -104,7 +104,7 @@ module _ (L : Layer) (sound : Sound L) where
           limit (unsmoothed (contourPass L f) vertices t) refl)
 
       -- it changes no entry off the contour
-      pub smoothContour-elsewhere : (k : ℕ) → Off L f k → getD (smoothContour L limit t f .table) k 0 ≡ getD t k 0
+      smoothContour-elsewhere : (k : ℕ) → Off L f k → getD (smoothContour L limit t f .table) k 0 ≡ getD t k 0
       smoothContour-elsewhere k off =
           rw (contour-is L limit t f)
           (until-keeps (contourPass L f) vertices (λ s. getD (s .table) k 0 ≡ getD t k 0)

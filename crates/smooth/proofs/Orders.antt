@@ -4,7 +4,7 @@ use mathlib.Core.Path.{_≡_, refl, sym, _∙_, ap}
 use mathlib.Core.Logic.{_≢_}
 use mathlib.Core.Bool.{Bool, true, _&&_, and-assoc, and-comm}
 use mathlib.Core.List.{List, [], _∷_, foldl}
-use Prim.Native.Nat.{ℕ, _+_, _≤_, _<_, max}
+use Prim.Native.Nat.{ℕ, _≤_, _<_}
 use native.Mathlib.Omega.{arith}
 use lib.ListN.{length}
 use Rattle.arith.specs.Booleans.{asNumber}
@@ -21,6 +21,8 @@ use Rattle.contour.proofs.Sticks.{laws}
 use Rattle.contour.proofs.Orders.{reordered, first-sticks-once}
 use Rattle.table.proofs.Local.{entry, Agree, agree-other, local-commute}
 use Rattle.smooth.specs.Smooth.{Smoothed, smoothContour, noContour, withContour, inTurn, smooth}
+use Rattle.smooth.specs.Call.{asked, smoothOf}
+use Rattle.smooth.proofs.Held.{same-call}
 use Rattle.smooth.proofs.Passes.{smoothNext, smooth-is}
 use Rattle.smooth.proofs.Locality.{SameAnswer, smoothContour-length, smoothContour-agree, smoothContour-local, other-contour}
 
@@ -36,10 +38,6 @@ with-same a b =
     }
 
 module _ (L : Layer) (sound : Sound L) (limit : ℕ) where
-  -- one contour more
-  abbrev pub turn : Smoothed → Edge → Smoothed
-  turn s f = smoothNext L limit s f
-
   -- f is the first stick of a contour
   abbrev pub IsFirst : Edge → Type 0
   IsFirst f = first (walkOf L) f ≡ true
@@ -50,12 +48,12 @@ module _ (L : Layer) (sound : Sound L) (limit : ℕ) where
   is-first : (f : Edge) {n : ℕ} → 0 < n → n ≤ asNumber (first (walkOf L) f) → IsFirst f
   is-first f some most = both-sides (first (walkOf L) f) (λ y. y) (λ n. absurd (omega (arith, ap asNumber n)))
 
-  turn-length : (s : Smoothed) (f : Edge) → IsFirst f → length (turn s f .table) ≡ length (s .table)
-  turn-length s f is = smoothContour-length L sound f (first-stick f is) limit (s .table)
+  next-length : (s : Smoothed) (f : Edge) → IsFirst f → length (smoothNext L limit s f .table) ≡ length (s .table)
+  next-length s f is = smoothContour-length L sound f (first-stick f is) limit (s .table)
 
   -- of two contours it does not matter which is smoothed first
   pub contours-commute : (f g : Edge) → IsFirst f → IsFirst g → f ≢ g → (s : Smoothed) → length (s .table) ≡ edgeCount (L .size)
-      → turn (turn s f) g ≡ turn (turn s g) f
+      → smoothNext L limit (smoothNext L limit s f) g ≡ smoothNext L limit (smoothNext L limit s g) f
   contours-commute f g first-f first-g differ s whole =
       let t : List ℕ = s .table in
       let F : List ℕ → Smoothed = λ u. smoothContour L limit u f in
@@ -69,11 +67,11 @@ module _ (L : Layer) (sound : Sound L) (limit : ℕ) where
       let at-g = smoothContour-agree L sound g stick-g limit (agree-other L sound f g first-f first-g differ _ local-f t whole) .answer in
       let back : g ≢ f = λ q. differ (sym q) in
       let at-f = smoothContour-agree L sound f stick-f limit (agree-other L sound g f first-g first-f back _ local-g t whole) .answer in
-      let passes : max (max (s .passes) (F t .passes)) (G (F t .table) .passes) ≡ max (max (s .passes) (G t .passes)) (F (G t .table) .passes) =
-      omega (arith, at-g .same-passes, at-f .same-passes) in
-      let total : s .total + F t .total + G (F t .table) .total ≡ s .total + G t .total + F (G t .table) .total =
-      omega (arith, at-g .same-total, at-f .same-total) in
-      let settled : (s .settled && F t .settled && G (F t .table) .settled) ≡ (s .settled && G t .settled && F (G t .table) .settled) =
+      let one : Smoothed = smoothNext L limit (smoothNext L limit s f) g in
+      let other : Smoothed = smoothNext L limit (smoothNext L limit s g) f in
+      let passes : one .passes ≡ other .passes = omega (arith, at-g .same-passes, at-f .same-passes) in
+      let total : one .total ≡ other .total = omega (arith, at-g .same-total, at-f .same-total) in
+      let settled : one .settled ≡ other .settled =
       rw (at-g .same-settled, at-f .same-settled) (swap-last (s .settled) (F t .settled) (G t .settled)) in
       λ i. record { table = tables i; passes = passes i; total = total i; settled = settled i }
 
@@ -82,8 +80,8 @@ module _ (L : Layer) (sound : Sound L) (limit : ℕ) where
       → inTurn (smoothContour L limit) t order ≡ smooth L limit t
   unfolding inTurn smooth
   any-order t whole order once =
-      reordered (walkOf L) (laws L sound) turn (λ s. length (s .table) ≡ edgeCount (L .size)) IsFirst
-      (λ s f sized is. turn-length s f is ∙ sized)
+      reordered (walkOf L) (laws L sound) (smoothNext L limit) (λ s. length (s .table) ≡ edgeCount (L .size)) IsFirst
+      (λ s f sized is. next-length s f is ∙ sized)
       (λ s f g sized is-f is-g differ. contours-commute f g is-f is-g differ s sized)
       order (firstSticks L)
       (λ f o. is-first f o (omega (arith, once f)))
@@ -96,11 +94,11 @@ module _ (L : Layer) (sound : Sound L) (limit : ℕ) where
   abbrev pub eachAlone : List ℕ → Smoothed
   eachAlone t = foldl (λ s f. withContour s (smoothContour L limit t f)) (noContour t) (firstSticks L)
 
-  -- smoothing the contour of f leaves what another agrees with
-  other-agree : (f g : Edge) → IsFirst f → IsFirst g → f ≢ g → (s : Smoothed) {u : List ℕ} → Agree L g (s .table) u → Agree L g (turn s f .table) u
+  -- after smoothing the contour of f the table agrees, on the contour of g, with what it agreed with before
+  other-agree : (f g : Edge) → IsFirst f → IsFirst g → f ≢ g → (s : Smoothed) {u : List ℕ} → Agree L g (s .table) u → Agree L g (smoothNext L limit s f .table) u
   other-agree f g first-f first-g differ s a =
       record {
-        whole₁ = turn-length s f first-f ∙ a .whole₁;
+        whole₁ = next-length s f first-f ∙ a .whole₁;
         whole₂ = a .whole₂;
         same-entry = λ e on. other-contour L sound f g first-f first-g differ limit (s .table) e on ∙ a .same-entry e on;
       }
@@ -124,7 +122,7 @@ module _ (L : Layer) (sound : Sound L) (limit : ℕ) where
           answer = record { same-passes = refl; same-total = refl; same-settled = refl };
         }
 
-    part-turn : (f : Edge) (l : List Edge) (s r : Smoothed) → Part (f ∷ l) s r → Part l (turn s f) (withContour r (smoothContour L limit t f))
+    part-turn : (f : Edge) (l : List Edge) (s r : Smoothed) → Part (f ∷ l) s r → Part l (smoothNext L limit s f) (withContour r (smoothContour L limit t f))
     unfolding occurrences
     part-turn f l s r p =
         let self = ap asNumber (laws L sound .same-self f) in
@@ -143,7 +141,7 @@ module _ (L : Layer) (sound : Sound L) (limit : ℕ) where
         }
 
     part-all : (l : List Edge) (s r : Smoothed) → Part l s r
-        → Part [] (foldl turn s l) (foldl (λ q f. withContour q (smoothContour L limit t f)) r l)
+        → Part [] (foldl (smoothNext L limit) s l) (foldl (λ q f. withContour q (smoothContour L limit t f)) r l)
     part-all [] s r p = p
     part-all (f ∷ l) s r p = part-all l _ _ (part-turn f l s r p)
 
@@ -151,7 +149,7 @@ module _ (L : Layer) (sound : Sound L) (limit : ℕ) where
     smoothed-all = rw (smooth-is L limit t) (part-all (firstSticks L) (noContour t) (noContour t) part-start)
 
     -- each contour ends as if it had been smoothed alone, from the table as it was lent
-    pub contour-alone : (f : Edge) → first (walkOf L) f ≡ true → (e : Edge) → OnContour (walkOf L) f e
+    pub contour-alone : (f : Edge) → IsFirst f → (e : Edge) → OnContour (walkOf L) f e
         → entry L (smooth L limit t .table) e ≡ entry L (smoothContour L limit t f .table) e
     unfolding occurrences
     contour-alone f first-f e on = smoothed-all .done f first-f refl .same-entry e on
@@ -160,3 +158,10 @@ module _ (L : Layer) (sound : Sound L) (limit : ℕ) where
     -- smoothed alone
     pub answer-alone : SameAnswer (smooth L limit t) (eachAlone t)
     answer-alone = smoothed-all .answer
+
+-- the same of the call, whatever is lent
+pub same-in-any-order : (L : Layer) (limit : ℕ) (t : List ℕ) (order : List Edge) → EachFirstOnce L order
+    → asked L t (inTurn (smoothContour L limit) t order) ≡ smoothOf L limit t
+unfolding smoothOf
+same-in-any-order L limit t order once =
+    same-call L t (inTurn (smoothContour L limit) t order) (smooth L limit t) λ sound kept. any-order L sound limit t (kept .whole) order once

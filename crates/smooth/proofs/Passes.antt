@@ -1,5 +1,5 @@
--- Passes over one contour, and its smoothing, on a sound layer whose vertices are all kept: they keep the table's length, every entry off the sticks
--- that they visit, and every vertex kept at an offset of 1 to 255. So nothing is removed.
+-- Passes over one contour until it is settled or the limit is reached: how they go on, and the limit; and that on a sound layer whose vertices are
+-- all kept they leave every vertex kept, at an offset of 1 to 255. So nothing is removed.
 use mathlib.Core.Path.{_≡_, refl, sym, _∙_, ap}
 use mathlib.Core.Bool.{Bool, true, false, true≢false}
 use mathlib.Core.List.{List, [], _∷_, foldl}
@@ -23,10 +23,6 @@ use Rattle.smooth.proofs.Steps.{visit-kept, visit-total}
 -- where smoothing stands, by its figures
 abbrev pub standing : List ℕ → ℕ → ℕ → Bool → Smoothed
 standing t passes total settled = record { table = t; passes = passes; total = total; settled = settled }
-
-pub passContour-is : (L : Layer) (s : Pass) (c : List Edge) → passContour L s c ≡ foldl (visit L) s c
-unfolding passContour
-passContour-is L s c = refl
 
 pub contour-is : (L : Layer) (limit : ℕ) (t : List ℕ) (f : Edge)
     → smoothContour L limit t f ≡ settle (contourPass L f) (length (contourOf L f)) limit t
@@ -67,7 +63,7 @@ module _ (onePass : List ℕ → Pass) (vertices : ℕ) where
   until-more n s y = ap (by-settled n s) y
 
   -- "until the limit": no pass beyond it, and all of them unless it is settled
-  pub until-passes : (n : ℕ) (s : Smoothed)
+  until-passes : (n : ℕ) (s : Smoothed)
       → let r : Smoothed = until onePass vertices n s in (r .passes ≤ s .passes + n) × (r .settled ≡ false → r .passes ≡ s .passes + n)
   until-passes zero s = rw (until-none s) (omega arith, λ y. omega arith)
   until-passes (suc n) s = both-sides (s .settled)
@@ -115,7 +111,7 @@ module _ {L : Layer} (sound : Sound L) where
   passContour-kept [] h s kept = kept
   passContour-kept (e ∷ c) h s kept = passContour-kept c (tail-sticks e c h) (visit L s e) (visit-kept sound s kept e (head-stick e c h))
 
-  pub passContour-total : (c : List Edge) → AllSticks L c → (s : Pass) → AllKept L (s .table) → passContour L s c .total ≤ s .total + 254 * length c
+  passContour-total : (c : List Edge) → AllSticks L c → (s : Pass) → AllKept L (s .table) → passContour L s c .total ≤ s .total + 254 * length c
   unfolding passContour
   passContour-total [] h s kept = omega arith
   passContour-total (e ∷ c) h s kept =

@@ -3,15 +3,13 @@
 use mathlib.Core.Path.{_≡_, sym, _∙_, ap}
 use mathlib.Core.Bool.{Bool, true, false, _&&_, true≢false}
 use mathlib.Core.List.{List, [], _∷_, map, flatten, foldl}
-use Prim.Native.Nat.{ℕ, _+_, _*_, _≤_, _<_, max}
+use Prim.Native.Nat.{ℕ, _+_, _*_, _≤_, max}
 use native.Mathlib.Omega.{arith}
 use lib.ListN.{length, length-append}
-use Rattle.arith.specs.Booleans.{asNumber}
 use Rattle.arith.proofs.Booleans.{both-sides}
 use Rattle.grid.specs.Layer.{Layer}
 use Rattle.grid.specs.Questions.{Sound}
 use Rattle.grid.specs.declared.edge.Edge.{Edge}
-use Rattle.contour.specs.Walk.{occurrences, first}
 use Rattle.contour.specs.Contours.{walkOf, contourOf, firstSticks}
 use Rattle.contour.specs.Sets.{FirstSet}
 use Rattle.contour.specs.Cursors.{left, Placed, Opened, Moved}
@@ -22,7 +20,7 @@ use Rattle.contour.proofs.Theorems.{first-sticks-only}
 use Rattle.contour.proofs.Cursors.{here-stick, here-left, none-left, fold-turn, fold-end}
 use Rattle.table.proofs.AllKept.{AllKept, passes-entries, passes-all-kept}
 use Rattle.smooth.specs.Smooth.{mostTotal, Smoothed, noContour, withContour, smoothContour, smooth, Smoothable, SmoothableAt}
-use Rattle.smooth.proofs.Passes.{standing, smoothNext, smooth-is, Kept, contour-kept, contour-passes}
+use Rattle.smooth.proofs.Passes.{standing, smoothNext, smooth-is, AllSticks, head-stick, tail-sticks, Kept, contour-kept, contour-passes}
 use Rattle.smooth.proofs.Sizes.{vertices-most}
 
 pub kept-smoothable : {L : Layer} {t : List ℕ} → Sound L → AllKept L t → Smoothable L t
@@ -36,28 +34,29 @@ kept-smoothable {L} {t} sound kept =
 
 -- ---- what comes of it: every vertex is kept, at an offset of 1 to 255, after it as before; and the limit
 
+-- first sticks are sticks
+pub firsts-sticks : {L : Layer} → Sound L → AllSticks L (firstSticks L)
+firsts-sticks {L} sound f o = first-one (walkOf L) (laws L sound) f (first-sticks-only L sound f o)
+
 module _ {L : Layer} (sound : Sound L) (limit : ℕ) where
-  contours-kept : (l : List Edge) → ((f : Edge) → 0 < occurrences (walkOf L) f l → first (walkOf L) f ≡ true) → (s : Smoothed) → AllKept L (s .table)
-      → AllKept L (foldl (smoothNext L limit) s l .table)
-  unfolding occurrences
+  contours-kept : (l : List Edge) → AllSticks L l → (s : Smoothed) → AllKept L (s .table) → AllKept L (foldl (smoothNext L limit) s l .table)
   contours-kept [] h s kept = kept
   contours-kept (f ∷ l) h s kept =
-      let is = h f (omega (arith, ap asNumber (laws L sound .same-self f))) in
-      contours-kept l (λ g o. h g (omega arith)) (smoothNext L limit s f)
-      (contour-kept sound f (first-one (walkOf L) (laws L sound) f is) limit kept .kept)
+      contours-kept l (tail-sticks sound f l h) (smoothNext L limit s f) (contour-kept sound f (head-stick sound f l h) limit kept .kept)
 
   pub smooth-kept : {t : List ℕ} → AllKept L t → AllKept L (smooth L limit t .table)
-  smooth-kept {t} kept = rw (smooth-is L limit t) (contours-kept (firstSticks L) (first-sticks-only L sound) (noContour t) kept)
+  smooth-kept {t} kept = rw (smooth-is L limit t) (contours-kept (firstSticks L) (firsts-sticks sound) (noContour t) kept)
+
+-- the largest number of passes is not beyond the limit, and it is the limit if some contour is not settled
+pub record WithinLimit (limit : ℕ) (s : Smoothed) : Type 0 where
+  pub passes-most : s .passes ≤ limit
+  pub passes-all : s .settled ≡ false → s .passes ≡ limit
 
 module _ (L : Layer) (limit : ℕ) where
-  -- no contour goes beyond the limit, and one that is not settled gets there
-  pub record WithinLimit (s : Smoothed) : Type 0 where
-    pub passes-most : s .passes ≤ limit
-    pub passes-all : s .settled ≡ false → s .passes ≡ limit
-
-  contours-within : (l : List Edge) (s : Smoothed) → WithinLimit s → WithinLimit (foldl (smoothNext L limit) s l)
+  contours-within : (l : List Edge) (s : Smoothed) → WithinLimit limit s → WithinLimit limit (foldl (smoothNext L limit) s l)
   contours-within [] s w = w
-  contours-within (f ∷ l) s w = contours-within l (smoothNext L limit s f) (record { passes-most = omega (arith, w .passes-most, one .0); passes-all = all })
+  contours-within (f ∷ l) s w =
+      contours-within l (smoothNext L limit s f) (record { passes-most = omega (arith, w .passes-most, one .0); passes-all = all })
     where
       r : Smoothed
       r = smoothContour L limit (s .table) f
@@ -70,7 +69,7 @@ module _ (L : Layer) (limit : ℕ) where
           (λ so-far. omega (arith, w .passes-most, one .1 (sym (ap (λ (b : Bool). b && r .settled) so-far) ∙ y)))
           (λ not-so-far. omega (arith, w .passes-all not-so-far, one .0))
 
-  pub smooth-within : (t : List ℕ) → WithinLimit (smooth L limit t)
+  pub smooth-within : (t : List ℕ) → WithinLimit limit (smooth L limit t)
   smooth-within t =
       rw (smooth-is L limit t)
       (contours-within (firstSticks L) (noContour t) (record { passes-most = omega arith; passes-all = λ y. absurd (true≢false y) }))

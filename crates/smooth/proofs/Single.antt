@@ -26,7 +26,7 @@ module _ {L : Layer} (sound : Sound L) (limit : ℕ) {t : List ℕ} (kept : AllK
 
   -- the paper's rule takes the sticks of all contours for one list
   former-over : former L limit t ≡ over (walked (walkOf L))
-  former-over = former-layer sound limit kept ∙ ap (λ (n : ℕ). settle (layerPass sound) n limit t) (sym (total-length L sound))
+  former-over = former-layer sound limit kept ∙ ap (λ (n : ℕ). settle (layerPass L) n limit t) (sym (total-length L sound))
 
   -- no contour: there is nothing to pass over
   over-none : over [] ≡ noContour t
@@ -53,7 +53,7 @@ module _ {L : Layer} (sound : Sound L) (limit : ℕ) {t : List ℕ} (kept : AllK
   over-few (f ∷ []) most = over-one f
   over-few (f ∷ g ∷ l) most = absurd (omega (arith, most))
 
-  pub former-single : contourCount L ≤ 1 → former L limit t ≡ smooth L limit t
+  former-single : contourCount L ≤ 1 → former L limit t ≡ smooth L limit t
   former-single few = former-over ∙ over-few (firstSticks L) few ∙ sym (smooth-is L limit t)
 
 -- one contour, or none
@@ -61,3 +61,11 @@ pub single-contour : (L : Layer) (limit : ℕ) (t : List ℕ) → contourCount L
 unfolding smoothOf formerOf
 single-contour L limit t few =
     same-call L t (smooth L limit t) (former L limit t) λ sound kept. sym (former-single sound limit kept few)
+
+-- a layer without contours: 0 passes, total 0, settled, and the table as it was, whatever it is
+pub no-contour : (L : Layer) (limit : ℕ) (t : List ℕ) → contourCount L ≡ 0 → smooth L limit t ≡ noContour t
+no-contour L limit t none = smooth-is L limit t ∙ by (firstSticks L) none
+  where
+    by : (l : List Edge) → length (map (contourOf L) l) ≡ 0 → foldl (smoothNext L limit) (noContour t) l ≡ noContour t
+    by [] e = refl
+    by (f ∷ l) e = absurd (omega (arith, e))

@@ -74,7 +74,7 @@ module _ (L : Layer) (sound : Sound L) (x f : Edge) (one : isStick L x ≡ true)
   other-number n = both-sides (sameEdge x f) (λ y. absurd (n (ap (number (L .size)) (laws L sound .same-eq x f y)))) (λ y. y)
 
 -- a total only grows
-pub visits-grow : (L : Layer) (c : List Edge) (s : Pass) → s .total ≤ foldl (visit L) s c .total
+visits-grow : (L : Layer) (c : List Edge) (s : Pass) → s .total ≤ foldl (visit L) s c .total
 visits-grow L [] s = omega arith
 visits-grow L (e ∷ c) s = omega (arith, visits-grow L c (visit L s e), visit-sum L s e)
 

@@ -5,6 +5,7 @@ use Prim.Native.Nat.{ℕ}
 use Rattle.grid.specs.Layer.{Layer}
 use Rattle.grid.specs.Questions.{firstNo, ifAllYes, numberOf}
 use Rattle.grid.specs.declared.question.Refusal.{Refusal}
+use Rattle.grid.specs.declared.question.Answer.{Answer}
 use Rattle.held.specs.Questions.{keptQuestions}
 use Rattle.smooth.specs.declared.smoothing.Smoothing.{Smoothing}
 use Rattle.smooth.specs.declared.smoothing.Smoothing.the-variants.{Done, Refused}
@@ -28,9 +29,13 @@ abbrev pub doneWith : Smoothed → Outcome
 doneWith s =
     record { refusal = 0; place = 0; passes = s .passes; total = s .total; settled = s .settled; table = s .table }
 
--- questions 1 to 7 and 15, put to a layer and the table t that is lent; where all are answered yes, s comes of the call
+-- by the answer to the questions: s comes of the call where it is yes
+abbrev pub answered : Answer → List ℕ → Smoothed → Outcome
+answered answer t s = ifAllYes answer (λ q place. refusedWith q place t) (doneWith s)
+
+-- questions 1 to 7 and 15, put to a layer and the table t that is lent
 abbrev pub asked : Layer → List ℕ → Smoothed → Outcome
-asked L t s = ifAllYes (firstNo (keptQuestions L t)) (λ q place. refusedWith q place t) (doneWith s)
+asked L t s = answered (firstNo (keptQuestions L t)) t s
 
 -- Smooth of a layer, with a pass limit, on the table t that it is lent
 unfoldable pub smoothOf : Layer → ℕ → List ℕ → Outcome
