@@ -95,7 +95,8 @@ module _ (L : Layer) (sound : Sound L) (limit : ℕ) where
   eachAlone t = foldl (λ s f. withContour s (smoothContour L limit t f)) (noContour t) (firstSticks L)
 
   -- after smoothing the contour of f the table agrees, on the contour of g, with what it agreed with before
-  other-agree : (f g : Edge) → IsFirst f → IsFirst g → f ≢ g → (s : Smoothed) {u : List ℕ} → Agree L g (s .table) u → Agree L g (smoothNext L limit s f .table) u
+  other-agree : (f g : Edge) → IsFirst f → IsFirst g → f ≢ g → (s : Smoothed) {u : List ℕ} → Agree L g (s .table) u
+      → Agree L g (smoothNext L limit s f .table) u
   other-agree f g first-f first-g differ s a =
       record {
         whole₁ = next-length s f first-f ∙ a .whole₁;
@@ -122,7 +123,8 @@ module _ (L : Layer) (sound : Sound L) (limit : ℕ) where
           answer = record { same-passes = refl; same-total = refl; same-settled = refl };
         }
 
-    part-turn : (f : Edge) (l : List Edge) (s r : Smoothed) → Part (f ∷ l) s r → Part l (smoothNext L limit s f) (withContour r (smoothContour L limit t f))
+    part-turn : (f : Edge) (l : List Edge) (s r : Smoothed) → Part (f ∷ l) s r
+        → Part l (smoothNext L limit s f) (withContour r (smoothContour L limit t f))
     unfolding occurrences
     part-turn f l s r p =
         let self = ap asNumber (laws L sound .same-self f) in

@@ -58,7 +58,8 @@ module _ (onePass : List ℕ → Pass) (vertices : ℕ) where
   until-settled zero s y = refl
   until-settled (suc n) s y = ap (by-settled n s) y
 
-  pub until-more : (n : ℕ) (s : Smoothed) → s .settled ≡ false → until onePass vertices (suc n) s ≡ until onePass vertices n (further onePass vertices s)
+  pub until-more : (n : ℕ) (s : Smoothed) → s .settled ≡ false
+      → until onePass vertices (suc n) s ≡ until onePass vertices n (further onePass vertices s)
   unfolding until by-settled
   until-more n s y = ap (by-settled n s) y
 
@@ -97,6 +98,11 @@ until-same {F} {G} vertices P same keeps (suc n) s h =
 abbrev pub AllSticks : Layer → List Edge → Type 0
 AllSticks L c = (e : Edge) → 0 < occurrences (walkOf L) e c → isStick L e ≡ true
 
+-- what smoothing a contour leaves: every vertex is kept, at an offset of 1 to 255, and the total is at most 254 for each of its vertices
+pub record StillKept (L : Layer) (f : Edge) (s : Smoothed) : Type 0 where
+  pub kept : AllKept L (s .table)
+  pub total-most : s .total ≤ 254 * length (contourOf L f)
+
 module _ {L : Layer} (sound : Sound L) where
   pub head-stick : (e : Edge) (c : List Edge) → AllSticks L (e ∷ c) → isStick L e ≡ true
   unfolding occurrences
@@ -130,15 +136,10 @@ module _ {L : Layer} (sound : Sound L) where
     pub contourPass-total : {t : List ℕ} → AllKept L t → contourPass L f t .total ≤ 254 * length (contourOf L f)
     contourPass-total {t} kept = omega (arith, passContour-total (contourOf L f) contour-sticks (passed t 0) kept)
 
-    -- what its smoothing leaves: every vertex is kept, at an offset of 1 to 255, and the total is at most 254 for each vertex
-    pub record Kept (s : Smoothed) : Type 0 where
-      pub kept : AllKept L (s .table)
-      pub total-most : s .total ≤ 254 * length (contourOf L f)
-
-    pub contour-kept : (limit : ℕ) {t : List ℕ} → AllKept L t → Kept (smoothContour L limit t f)
+    pub contour-kept : (limit : ℕ) {t : List ℕ} → AllKept L t → StillKept L f (smoothContour L limit t f)
     contour-kept limit {t} kept =
         rw (contour-is L limit t f)
-        (until-keeps (contourPass L f) n Kept
+        (until-keeps (contourPass L f) n (StillKept L f)
         (λ s h. rw (further-is (contourPass L f) n s)
         (record { kept = contourPass-kept (h .kept); total-most = contourPass-total (h .kept) }))
         limit (unsmoothed (contourPass L f) n t) (record { kept = kept; total-most = omega arith }))
@@ -146,10 +147,15 @@ module _ {L : Layer} (sound : Sound L) where
         n : ℕ
         n = length (contourOf L f)
 
--- the limit
-module _ (L : Layer) (limit : ℕ) (t : List ℕ) (f : Edge) where
-  pub contour-passes : let r : Smoothed = smoothContour L limit t f in (r .passes ≤ limit) × (r .settled ≡ false → r .passes ≡ limit)
-  contour-passes =
-      let n : ℕ = length (contourOf L f) in
-      let most = until-passes (contourPass L f) n limit (unsmoothed (contourPass L f) n t) in
-      rw (contour-is L limit t f) (omega (arith, most .0), λ y. omega (arith, most .1 y))
+-- ---- the limit
+
+-- the number of passes, of several contours the largest, is not beyond the limit, and it is the limit unless all is settled
+pub record WithinLimit (limit : ℕ) (s : Smoothed) : Type 0 where
+  pub passes-most : s .passes ≤ limit
+  pub passes-all : s .settled ≡ false → s .passes ≡ limit
+
+pub contour-passes : (L : Layer) (limit : ℕ) (t : List ℕ) (f : Edge) → WithinLimit limit (smoothContour L limit t f)
+contour-passes L limit t f =
+    let n : ℕ = length (contourOf L f) in
+    let most = until-passes (contourPass L f) n limit (unsmoothed (contourPass L f) n t) in
+    rw (contour-is L limit t f) (record { passes-most = omega (arith, most .0); passes-all = λ y. omega (arith, most .1 y) })

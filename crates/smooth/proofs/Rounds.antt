@@ -20,7 +20,7 @@ use Rattle.contour.proofs.Theorems.{first-sticks-only}
 use Rattle.contour.proofs.Cursors.{here-stick, here-left, none-left, fold-turn, fold-end}
 use Rattle.table.proofs.AllKept.{AllKept, passes-entries, passes-all-kept}
 use Rattle.smooth.specs.Smooth.{mostTotal, Smoothed, noContour, withContour, smoothContour, smooth, Smoothable, SmoothableAt}
-use Rattle.smooth.proofs.Passes.{standing, smoothNext, smooth-is, AllSticks, head-stick, tail-sticks, Kept, contour-kept, contour-passes}
+use Rattle.smooth.proofs.Passes.{standing, smoothNext, smooth-is, AllSticks, head-stick, tail-sticks, StillKept, contour-kept, WithinLimit, contour-passes}
 use Rattle.smooth.proofs.Sizes.{vertices-most}
 
 pub kept-smoothable : {L : Layer} {t : List ℕ} → Sound L → AllKept L t → Smoothable L t
@@ -47,27 +47,22 @@ module _ {L : Layer} (sound : Sound L) (limit : ℕ) where
   pub smooth-kept : {t : List ℕ} → AllKept L t → AllKept L (smooth L limit t .table)
   smooth-kept {t} kept = rw (smooth-is L limit t) (contours-kept (firstSticks L) (firsts-sticks sound) (noContour t) kept)
 
--- the largest number of passes is not beyond the limit, and it is the limit if some contour is not settled
-pub record WithinLimit (limit : ℕ) (s : Smoothed) : Type 0 where
-  pub passes-most : s .passes ≤ limit
-  pub passes-all : s .settled ≡ false → s .passes ≡ limit
-
 module _ (L : Layer) (limit : ℕ) where
   contours-within : (l : List Edge) (s : Smoothed) → WithinLimit limit s → WithinLimit limit (foldl (smoothNext L limit) s l)
   contours-within [] s w = w
   contours-within (f ∷ l) s w =
-      contours-within l (smoothNext L limit s f) (record { passes-most = omega (arith, w .passes-most, one .0); passes-all = all })
+      contours-within l (smoothNext L limit s f) (record { passes-most = omega (arith, w .passes-most, one .passes-most); passes-all = all })
     where
       r : Smoothed
       r = smoothContour L limit (s .table) f
 
-      one : (r .passes ≤ limit) × (r .settled ≡ false → r .passes ≡ limit)
+      one : WithinLimit limit r
       one = contour-passes L limit (s .table) f
 
       all : (s .settled && r .settled) ≡ false → max (s .passes) (r .passes) ≡ limit
       all y = both-sides (s .settled)
-          (λ so-far. omega (arith, w .passes-most, one .1 (sym (ap (λ (b : Bool). b && r .settled) so-far) ∙ y)))
-          (λ not-so-far. omega (arith, w .passes-all not-so-far, one .0))
+          (λ so-far. omega (arith, w .passes-most, one .passes-all (sym (ap (λ (b : Bool). b && r .settled) so-far) ∙ y)))
+          (λ not-so-far. omega (arith, w .passes-all not-so-far, one .passes-most))
 
   pub smooth-within : (t : List ℕ) → WithinLimit limit (smooth L limit t)
   smooth-within t =
@@ -108,7 +103,7 @@ module _ {L : Layer} {set : List ℕ} (firsts : FirstSet L set) {limit : ℕ} {t
 
     -- r is what the code finds of it
     module _ {r : Smoothed} (found : r ≡ smoothContour L limit (s .table) (c .stick)) where
-      found-kept : Kept (firsts .sound) (c .stick) (here-stick firsts (g .placed) more) r
+      found-kept : StillKept L (c .stick) r
       found-kept = rw found (contour-kept (firsts .sound) (c .stick) (here-stick firsts (g .placed) more) limit (g .kept))
 
       room-left : (l : List Edge) → left L c ≡ c .stick ∷ l → s .total + r .total + 254 * sticksOf L l ≤ mostTotal
