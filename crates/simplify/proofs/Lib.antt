@@ -4,6 +4,7 @@
 pub mod Trying
 pub mod Layers
 pub mod Locality
+pub mod Waiting
 pub mod Pending
 pub mod Outcomes
 pub mod Covers
