@@ -1,5 +1,4 @@
-// Trying the runs of a contour: a run that passes loses its inner vertices, one that does not is split and its parts are tried. Those that
-// are still to be tried wait in an array.
+// Trying the runs of a contour, in one loop: take a run of those that wait, test it, and remove its inner vertices or push its two parts.
 use grid::Edge;
 use grid::Size;
 use run::PLACES;
@@ -9,16 +8,28 @@ use run::put_marks;
 use run::remove_inner;
 use run::stick_at;
 ghost use mathlib.Core.Path.{_≡_};
+ghost use Prim.Native.Nat.{_+_, _≤_};
 ghost use Rattle.grid.specs.Layer.{layerOf};
 ghost use Rattle.table.specs.Lent.{LentAt};
+ghost use Rattle.run.specs.Runs.{stickAfter};
+ghost use Rattle.run.specs.Marks.{Along};
 ghost use Rattle.simplify.specs.Runs.{half, simplifyContour};
-ghost use Rattle.simplify.specs.Parts.{begun, reached, ContourLent};
+ghost use Rattle.simplify.specs.Parts.{begun, reached, firstPart, secondPart, ContourLent};
 
 // A contour of this many sticks or more is worth marks.
 const LONG_CONTOUR: usize = 4096;
 
-// How many runs can wait. Each has fewer halvings left than the one that waits below it, and the lowest has at most 20.
+// How many runs can wait.
 const ROOM: usize = 22;
+
+// A run of a contour: the sticks where it starts and ends, how many steps lead to its start from the contour's first stick, and how many edges
+// it has.
+pub struct Run {
+    pub start: Edge,
+    pub end: Edge,
+    pub place: usize,
+    pub edges: usize,
+}
 
 // How many vertices were removed, and how many runs tried.
 pub struct RunCounts {
@@ -33,8 +44,49 @@ fn half_of(n: usize) -> usize
     n / 2
 }
 
-// Tries the two runs of the contour of n sticks that starts at `first`, and the parts of those that do not pass. A run from e to `end` is being
-// tried; those after it wait, the last one first, each as its number of edges and the stick where it ends.
+// The stick where the first part of a run ends and the second one starts.
+fn middle_of(size: Size, bitmap: &[u8], marks: &[u32], run: Run) -> Edge
+    requires { ⌜ Along (layerOf size (now bitmap)) (now marks) (run .start) (run .place) (half (run .edges)) ⌝ }
+    ensures { λ r. ⌜ r ≡ stickAfter (layerOf size (now (bitmap .entry))) (half (run .edges)) (run .start) ⌝ }
+{
+    stick_at(
+        size,
+        bitmap,
+        marks,
+        run.start,
+        run.place,
+        half_of(run.edges),
+    )
+}
+
+fn first_part(run: Run, middle: Edge) -> Run
+    ensures { λ r. ⌜ r ≡ firstPart run middle ⌝ }
+{
+    let start = run.start;
+    Run {
+        start,
+        end: middle,
+        place: run.place,
+        edges: half_of(run.edges),
+    }
+}
+
+fn second_part(run: Run, middle: Edge) -> Run
+    requires { ⌜ run .place + run .edges ≤ 2095104 ⌝ }
+    ensures { λ r. ⌜ r ≡ secondPart run middle ⌝ }
+{
+    let end = run.end;
+    let h = half_of(run.edges);
+    Run {
+        start: middle,
+        end,
+        place: run.place + h,
+        edges: run.edges - h,
+    }
+}
+
+// Tries the two runs of the contour of n sticks that starts at `first`, and the parts of those that do not pass. The first `top` of `runs` wait,
+// and the last of them is taken.
 fn try_runs(
     size: Size,
     bitmap: &[u8],
@@ -47,38 +99,34 @@ fn try_runs(
     requires { ⌜ ContourLent (layerOf size (now bitmap)) (now table) first n (now marks) ⌝ }
     ensures { λ r. ⌜ reached r (now (table .exit)) ≡ simplifyContour (layerOf size (now (bitmap .entry))) t (begun (now (table .entry))) first ⌝ }
 {
-    let mut edges: [usize; ROOM] = [0; ROOM];
-    let mut ends: [Edge; ROOM] = [first; ROOM];
-    let mut m = half_of(n);
-    edges[0] = n - m;
-    let mut top: usize = 1;
-    let mut e = first;
-    let mut p: usize = 0;
-    let mut end = stick_at(size, bitmap, marks, first, 0, m);
+    let whole = Run {
+        start: first,
+        end: first,
+        place: 0,
+        edges: n,
+    };
+    let middle = middle_of(size, bitmap, marks, whole);
+    let mut runs: [Run; ROOM] = [whole; ROOM];
+    runs[0] = second_part(whole, middle);
+    runs[1] = first_part(whole, middle);
+    let mut top: usize = 2;
     let mut removed: usize = 0;
     let mut tried: usize = 0;
-    loop {
-        tried += 1;
-        if !passes_run(size, bitmap, table, t, e, end, m) {
-            let h = half_of(m);
-            edges[top] = m - h;
-            ends[top] = end;
-            top += 1;
-            m = h;
-            end = stick_at(size, bitmap, marks, e, p, h);
-            continue;
-        }
-        remove_inner(size, bitmap, table, e, m);
-        removed += m - 1;
-        if top == 0 {
-            return RunCounts { removed, tried };
-        }
+    while 0 < top {
         top -= 1;
-        p += m;
-        e = end;
-        m = edges[top];
-        end = ends[top];
+        let run = runs[top];
+        tried += 1;
+        if passes_run(size, bitmap, table, t, run.start, run.end, run.edges) {
+            remove_inner(size, bitmap, table, run.start, run.edges);
+            removed += run.edges - 1;
+        } else {
+            let middle = middle_of(size, bitmap, marks, run);
+            runs[top] = second_part(run, middle);
+            runs[top + 1] = first_part(run, middle);
+            top += 2;
+        }
     }
+    RunCounts { removed, tried }
 }
 
 // Simplifies the contour that starts at `first`.

@@ -1,133 +1,166 @@
--- `try_runs` meets its contract. The invariant: trying the run that the loop is at and those that wait gives what the contour is to give. The
--- measure is how many runs are still to be tried. `failed` and `passed` are the two answers of the test, `small`, `space` and `stored` the bounds.
-use mathlib.Core.Path.{_≡_, refl, sym, _∙_}
+-- `try_runs` meets its contract. The invariant: trying the runs that wait gives what the contour is to give, and as many wait as the definition
+-- says. The measure is how many runs are still to be tried. `passed` and `failed` are the two answers of the test.
+use mathlib.Core.Path.{_≡_, refl, sym, subst, _∙_, ap}
 use mathlib.Core.Bool.{true, false}
 use Prim.Native.Nat.{_+_, _-_, _≤_, _<_}
 use native.Mathlib.Omega.{arith}
+use lib.ListN.{replicate}
 use borrow.Author.Needs.{needs}
 use borrow.Author.Tests.{not-true, not-false}
 use Rattle.grid.specs.Layer.{layerOf}
+use Rattle.grid.specs.declared.edge.Edge.{Edge}
 use Rattle.run.specs.Runs.{passes, RunLent}
 use Rattle.run.proofs.Steps.{lent-start, most-sticks}
 use Rattle.simplify.specs.Runs.{simplifyContour}
-use Rattle.simplify.specs.Parts.{begun}
-use Rattle.simplify.proofs.Pending.{Pending, pending-start, start-along, run-lent, inside, counts-small, few, room, along, pending-split, pending-last, pending-next}
+use Rattle.simplify.specs.Parts.{begun, ContourLent}
+use Rattle.simplify.specs.declared.tries.Run.{Run}
+use Rattle.simplify.proofs.Pending.{wholeRun, taken, beginning, OnContour, Pending, whole-on, whole-splits, middle-along, run-lent, place-small, pending-start, counts-small, few, taken-on, taken-splits, room, pending-passed, pending-split, pending-end}
 use Rattle.simplify.proofs.tries.try_runs.Statement.{statement}
 use Rattle.simplify.proofs.tries.try_runs.Tie as tie
 
 abbrev Inv-loop : tie.InvT-loop
-Inv-loop size bitmap table₀ t marks n edges₀ ends₀ m₀ top₀ e₀ p₀ end₀ removed₀ tried₀ table edges ends m top e p end removed tried =
-    Pending (layerOf size bitmap) t e₀ n table₀ table edges ends m top e p end removed tried
+Inv-loop size bitmap table₀ t marks n runs₀ top₀ removed₀ tried₀ table runs top removed tried =
+    Pending (layerOf size bitmap) t (beginning runs₀) n table₀ table runs top removed tried
 
 abbrev μ-loop : tie.MeasureT-loop
-μ-loop size bitmap table₀ t marks n edges₀ ends₀ m₀ top₀ e₀ p₀ end₀ removed₀ tried₀ table edges ends m top e p end removed tried =
-    simplifyContour (layerOf size bitmap) t (begun table₀) e₀ .tried - tried
-
--- the function's start, from where the loop stands
-abbrev start-of : tie.At-loop Inv-loop μ-loop → tie.Start Inv-loop μ-loop
-start-of at-loop = at-loop .before .before .before .before .before .before
+μ-loop size bitmap table₀ t marks n runs₀ top₀ removed₀ tried₀ table runs top removed tried =
+    simplifyContour (layerOf size bitmap) t (begun table₀) (beginning runs₀) .tried - tried
 
 -- Before the loop
 
-stick-at-requires : tie.Need-stick-at-requires Inv-loop μ-loop
-stick-at-requires c κs =
-    let given = c .before .before .before .before .pre in
-    start-along (given .contour) (c .half-of .ensures) (given .marked)
+middle-of-requires : tie.Need-middle-of-requires Inv-loop μ-loop
+middle-of-requires c κs =
+    let given = c .before .before .before .pre in
+    middle-along (given .contour) (whole-on (given .contour)) (whole-splits (given .contour)) (given .marked)
+
+second-part-requires : tie.Need-second-part-requires Inv-loop μ-loop
+second-part-requires c κs = let contour = c .before .before .before .before .pre .contour in place-small contour (whole-on contour)
 
 loop-holds : tie.Need-loop-holds Inv-loop μ-loop
 loop-holds c =
-    let halving = c .before in
-    pending-start (halving .before .before .before .before .pre .contour) refl refl refl refl (halving .half-of .ensures) (c .stick-at .ensures)
+    let middle = c .before .before in
+    let start = middle .before .before .before .before in
+    pending-start (start .pre .contour) (replicate 22 (wholeRun (start .args .first) (start .args .n))) refl (middle .middle-of .ensures)
+    (c .first-part .ensures) (c .before .second-part .ensures)
 
--- Where the run is tried
+-- Where a run is taken
 
--- the counts and places are small
-small : (c : tie.At-loop Inv-loop μ-loop) → let l = c .loop in (l .removed ≤ 2095104) × (l .tried ≤ 4190208) × (l .p + l .m ≤ 2095104)
-small c =
-    let contour = start-of c .pre .contour in
-    let counts = counts-small contour (c .loop .inv) in
-    (counts .0, counts .1, omega (arith, most-sticks contour, inside contour (c .loop .inv)))
+-- the function's start, from where the loop stands
+abbrev start-of : tie.At-loop Inv-loop μ-loop → tie.Start Inv-loop μ-loop
+start-of at-loop = at-loop .before .before .before .before .before .before .before
 
--- what is given of the run
-run : (c : tie.At-loop Inv-loop μ-loop) → let a = start-of c .args in
-    RunLent (layerOf (a .size) (a .bitmap .now)) (c .loop .table) (c .loop .e) (c .loop .end) (c .loop .m)
-run c = let given = start-of c .pre in run-lent (given .contour) (c .loop .inv) (given .exact)
+-- the contour begins where the first run does that waits
+begins : (c : tie.At-loop Inv-loop μ-loop) → c .before .first-part .result .start ≡ start-of c .args .first
+begins c = ap (λ (r : Run). r .start) (c .before .first-part .ensures)
 
--- The run is split
+-- what is given of the contour
+given : (c : tie.At-loop Inv-loop μ-loop) → let a = start-of c .args in
+    ContourLent (layerOf (a .size) (a .bitmap .now)) (a .table .now) (c .before .first-part .result .start) (a .n) (a .marks .now)
+given c =
+    let a = start-of c .args in
+    subst (λ (f : Edge). ContourLent (layerOf (a .size) (a .bitmap .now)) (a .table .now) f (a .n) (a .marks .now))
+    (sym (begins c)) (start-of c .pre)
 
-failed : (c : tie.Then1 Inv-loop μ-loop) → let at-loop = c .before .before .before in
-    let a = start-of at-loop .args in
-    passes (layerOf (a .size) (a .bitmap .now)) (at-loop .loop .table) (a .t) (at-loop .loop .e) (at-loop .loop .m) ≡ false
-failed c = sym (c .before .passes-run .ensures) ∙ not-true _ (c .if1 .taken)
+-- the run lies on the contour
+run : (c : tie.In-loop Inv-loop μ-loop) → let a = start-of (c .before) .args in
+    let l = c .before .loop in
+    OnContour (layerOf (a .size) (a .bitmap .now)) (c .before .before .first-part .result .start) (a .n) (taken (l .runs) (l .top))
+run c = taken-on (given (c .before) .contour) (c .before .loop .inv) (c .loop-test .taken)
 
--- there is room for its second part
-space : (c : tie.After-half-of2 Inv-loop μ-loop) → c .before .before .before .before .loop .top < 21
-space c =
-    let at-loop = c .before .before .before .before in
-    room (start-of at-loop .pre .contour) (at-loop .loop .inv) (failed (c .before)) (c .half-of2 .ensures)
+-- what the code that works on it is given
+lent : (c : tie.In-loop Inv-loop μ-loop) → let a = start-of (c .before) .args in
+    let l = c .before .loop in
+    let r = taken (l .runs) (l .top) in
+    RunLent (layerOf (a .size) (a .bitmap .now)) (l .table) (r .start) (r .end) (r .edges)
+lent c =
+    let g = given (c .before) in
+    run-lent (g .contour) (run c) (c .before .loop .inv .same-length ∙ g .exact)
 
-stick-at-requires-2 : tie.Need-stick-at-requires-2 Inv-loop μ-loop
-stick-at-requires-2 c κs =
-    let at-loop = c .before .before .before .before in
-    let given = start-of at-loop .pre in
-    along (given .contour) (at-loop .loop .inv) (failed (c .before)) (c .half-of2 .ensures) (given .marked)
-
-loop-again : tie.Need-loop-again Inv-loop μ-loop
-loop-again c =
-    let halving = c .before in
-    let at-loop = halving .before .before .before .before in
-    pending-split (start-of at-loop .pre .contour) (at-loop .loop .inv) (failed (halving .before)) (halving .half-of2 .ensures)
-    (c .stick-at2 .ensures)
-
-loop-less : tie.Need-loop-less Inv-loop μ-loop
-loop-less c = omega (arith, counts-small (start-of (c .before .before .before .before .before) .pre .contour) (loop-again c) .2)
+-- it stands in its place
+stored : (c : tie.In-loop Inv-loop μ-loop) → c .before .loop .top - 1 < 22
+stored c = omega (arith, few (given (c .before) .contour) (c .before .loop .inv), c .loop-test .taken)
 
 -- The run passes
 
-passed : (c : tie.Else1 Inv-loop μ-loop) → let at-loop = c .before .before .before in
+-- where the run was taken
+abbrev taking : tie.After-passes-run Inv-loop μ-loop → tie.In-loop Inv-loop μ-loop
+taking c = c .before .before .before
+
+passed : (c : tie.Then1 Inv-loop μ-loop) → let at-loop = taking (c .before) .before in
     let a = start-of at-loop .args in
-    passes (layerOf (a .size) (a .bitmap .now)) (at-loop .loop .table) (a .t) (at-loop .loop .e) (at-loop .loop .m) ≡ true
-passed c = sym (c .before .passes-run .ensures) ∙ not-false _ (c .if1 .left)
+    let r = taken (at-loop .loop .runs) (at-loop .loop .top) in
+    passes (layerOf (a .size) (a .bitmap .now)) (at-loop .loop .table) (a .t) (r .start) (r .edges) ≡ true
+passed c = sym (c .before .passes-run .ensures) ∙ c .if1 .taken
 
-same-length : tie.Need-same-length Inv-loop μ-loop
-same-length c =
+small : (c : tie.Then1 Inv-loop μ-loop) → let l = taking (c .before) .before .loop in l .removed + (taken (l .runs) (l .top) .edges - 1) ≤ 4190208
+small c =
+    let at-loop = taking (c .before) .before in
+    let contour = given at-loop .contour in
+    omega (arith, counts-small contour (at-loop .loop .inv), place-small contour (run (taking (c .before))))
+
+loop-again : tie.Need-loop-again Inv-loop μ-loop
+loop-again c =
     let removing = c .before .before .before in
-    removing .remove-inner .kept .1 .1 .0 ∙ removing .before .before .before .before .before .loop .inv .same-length
+    let test = removing .before .before in
+    let here = taking (test .before) in
+    pending-passed (given (here .before) .contour) (here .before .loop .inv) (here .loop-test .taken) (passed test) (removing .remove-inner .ensures)
 
-returns : tie.Need-returns Inv-loop μ-loop
-returns c =
-    let removing = c .before .before .before in
-    let at-loop = removing .before .before .before .before .before in
-    pending-last (start-of at-loop .pre .contour) (at-loop .loop .inv) (passed (removing .before .before)) (removing .remove-inner .ensures)
-    (c .if2 .taken)
+loop-less : tie.Need-loop-less Inv-loop μ-loop
+loop-less c =
+    let here = taking (c .before .before .before .before .before .before) in
+    omega (arith, counts-small (given (here .before) .contour) (loop-again c) .2)
 
--- the last that waits is in its place
-stored : (c : tie.Else2 Inv-loop μ-loop) → c .before .before .before .before .before .before .before .before .loop .top ≤ 21
-stored c =
-    let at-loop = c .before .before .before .before .before .before .before .before in
-    omega (arith, few (start-of at-loop .pre .contour) (at-loop .loop .inv))
+-- The run is split
+
+failed : (c : tie.Else1 Inv-loop μ-loop) → let at-loop = taking (c .before) .before in
+    let a = start-of at-loop .args in
+    let r = taken (at-loop .loop .runs) (at-loop .loop .top) in
+    passes (layerOf (a .size) (a .bitmap .now)) (at-loop .loop .table) (a .t) (r .start) (r .edges) ≡ false
+failed c = sym (c .before .passes-run .ensures) ∙ c .if1 .left
+
+-- there is room for both parts
+space : (c : tie.Else1 Inv-loop μ-loop) → taking (c .before) .before .loop .top - 1 + 2 ≤ 22
+space c =
+    let here = taking (c .before) in
+    room (given (here .before) .contour) (here .before .loop .inv) (here .loop-test .taken) (failed c)
+
+middle-of-requires-2 : tie.Need-middle-of-requires-2 Inv-loop μ-loop
+middle-of-requires-2 c κs =
+    let here = taking (c .before) in
+    let g = given (here .before) in
+    middle-along (g .contour) (run here) (taken-splits (g .contour) (here .before .loop .inv) (here .loop-test .taken) (failed c)) (g .marked)
 
 loop-again-2 : tie.Need-loop-again-2 Inv-loop μ-loop
 loop-again-2 c =
-    let removing = c .before .before .before .before in
-    let at-loop = removing .before .before .before .before .before in
-    pending-next (start-of at-loop .pre .contour) (at-loop .loop .inv) (passed (removing .before .before)) (removing .remove-inner .ensures)
-    (omega (arith, c .before .if2 .left)) _ refl refl
+    let middle = c .before .before in
+    let here = taking (middle .before .before) in
+    pending-split (given (here .before) .contour) (here .before .loop .inv) (here .loop-test .taken) (failed (middle .before))
+    (middle .middle-of2 .ensures) (c .first-part2 .ensures) (c .before .second-part2 .ensures)
 
 loop-less-2 : tie.Need-loop-less-2 Inv-loop μ-loop
 loop-less-2 c =
-    let at-loop = c .before .before .before .before .before .before .before .before .before in
-    omega (arith, counts-small (start-of at-loop .pre .contour) (loop-again-2 c) .2)
+    let here = taking (c .before .before .before .before) in
+    omega (arith, counts-small (given (here .before) .contour) (loop-again-2 c) .2)
+
+-- None is left
+
+returns : tie.Need-returns Inv-loop μ-loop
+returns c =
+    let at-loop = c .before in
+    let a = start-of at-loop .args in
+    pending-end (given at-loop .contour) (at-loop .loop .inv) (omega (arith, c .loop-test .left))
+    ∙ ap (simplifyContour (layerOf (a .size) (a .bitmap .now)) (a .t) (begun (a .table .now))) (begins at-loop)
 
 pub try-runs-spec : {M : Type 1} → statement M
 try-runs-spec =
     tie.close
-    (tie.spec Inv-loop μ-loop (λ c κs. search needs) (λ c. omega (arith, c .half-of .ensures)) (λ c. search needs) stick-at-requires loop-holds
-    (λ c. omega (arith, small c .1)) (λ c κs. run (c .before)) (λ c κs. search needs) (λ c. omega (arith, c .half-of2 .ensures))
-    (λ c. omega (arith, space c)) (λ c. omega (arith, space c)) (λ c. omega (arith, space c)) (λ c. omega (arith, space c))
-    (λ c. omega (arith, space c)) stick-at-requires-2 loop-less loop-again (λ c κs. lent-start (run (c .before .before .before .before)))
-    (λ c. c .before .before .before .before .before .before .before .loop .inv .some)
-    (λ c. omega (arith, small (c .before .before .before .before .before .before .before))) same-length returns
-    (λ c. omega (arith, c .if2 .left)) (λ c. omega (arith, small (c .before .before .before .before .before .before .before .before)))
-    (λ c. omega (arith, stored c)) (λ c. omega (arith, stored c)) (λ c. omega (arith, stored c)) (λ c. omega (arith, stored c)) loop-less-2
-    loop-again-2)
+    (tie.spec Inv-loop μ-loop middle-of-requires second-part-requires (λ c. search needs) (λ c κs. search needs) (λ c. search needs) loop-holds
+    (λ c. omega (arith, c .loop-test .taken)) (λ c. omega (arith, stored c)) stored
+    (λ c. omega (arith, counts-small (given (c .before .before) .contour) (c .before .before .loop .inv)))
+    (λ c κs. lent (c .before .before)) (λ c κs. lent-start (lent (taking (c .before .before))))
+    (λ c. run (taking (c .before .before .before .before .before .before)) .some) (λ c. omega (arith, small (c .before .before .before .before .before)))
+    loop-less loop-again middle-of-requires-2 (λ c κs. place-small (given (taking (c .before .before) .before) .contour) (run (taking (c .before .before))))
+    (λ c. omega (arith, space (c .before .before))) (λ c. omega (arith, space (c .before .before))) (λ c κs. search needs)
+    (λ c. omega (arith, space (c .before .before .before))) (λ c. omega (arith, space (c .before .before .before)))
+    (λ c. omega (arith, space (c .before .before .before))) (λ c. omega (arith, space (c .before .before .before))) loop-less-2 loop-again-2
+    (λ c. c .before .loop .inv .same-length) returns)
