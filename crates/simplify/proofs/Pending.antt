@@ -12,6 +12,7 @@ use lib.Seq.{getD-set-same, getD-set-other, getD-drop, drop-drop}
 use Rattle.grid.specs.Layer.{Layer}
 use Rattle.grid.specs.Edges.{edgeCount, isStick}
 use Rattle.grid.specs.declared.edge.Edge.{Edge}
+use Rattle.contour.specs.Contours.{contourOf}
 use Rattle.table.specs.Stores.{without}
 use Rattle.drawn.proofs.FourKept.{four-sticks}
 use Rattle.run.specs.Runs.{stickAfter, between, passes, StickOf, HasSticks, RunLent}
@@ -66,131 +67,116 @@ waiting-two d runs k a b l =
 -- Runs tried one after the other
 
 module _ (L : Layer) (tolerance : ℕ) where
-  -- one run, as deep as it needs
-  abbrev pub tryOne : Progress → Run → Progress
-  tryOne s r = tryRun L tolerance (r .edges) s (r .start) (r .edges)
+  -- a run of m edges from e, as deep as it needs, and how many wait meanwhile
+  abbrev pub tryOne : Progress → Edge → ℕ → Progress
+  tryOne s e m = tryRun L tolerance m s e m
 
-  abbrev pub tryAll : Progress → List Run → Progress
-  tryAll s [] = s
-  tryAll s (r ∷ l) = tryAll (tryOne s r) l
+  abbrev waitsOfOne : Progress → Edge → ℕ → ℕ → List ℕ
+  waitsOfOne s e m others = waitsOfRun L tolerance m s e m others
 
-  -- how many wait meanwhile
-  abbrev waitsOfOne : Progress → Run → ℕ → List ℕ
-  waitsOfOne s r others = waitsOfRun L tolerance (r .edges) s (r .start) (r .edges) others
+  -- runs that follow each other from e on
+  abbrev pub tryAll : Progress → Edge → List Run → Progress
+  tryAll s e [] = s
+  tryAll s e (r ∷ l) = tryAll (tryOne s e (r .edges)) (r .end) l
 
-  abbrev pub waitsOfAll : Progress → List Run → List ℕ
-  waitsOfAll s [] = []
-  waitsOfAll s (r ∷ l) = waitsOfOne s r (length l) ++ waitsOfAll (tryOne s r) l
+  abbrev pub waitsOfAll : Progress → Edge → List Run → List ℕ
+  waitsOfAll s e [] = []
+  waitsOfAll s e (r ∷ l) = waitsOfOne s e (r .edges) (length l) ++ waitsOfAll (tryOne s e (r .edges)) (r .end) l
 
-  all-more : (s : Progress) (l : List Run) → (s .removed ≤ tryAll s l .removed) × (s .tried ≤ tryAll s l .tried)
-  all-more s [] = (omega arith, omega arith)
-  all-more s (r ∷ l) =
-      let w = try-bounds L tolerance (r .edges) s (r .start) (r .edges) in
-      let m = all-more (tryOne s r) l in
+  all-more : (s : Progress) (e : Edge) (l : List Run) → (s .removed ≤ tryAll s e l .removed) × (s .tried ≤ tryAll s e l .tried)
+  all-more s e [] = (omega arith, omega arith)
+  all-more s e (r ∷ l) =
+      let w = try-bounds L tolerance (r .edges) s e (r .edges) in
+      let m = all-more (tryOne s e (r .edges)) (r .end) l in
       (omega (arith, w .removed-least, m .0), omega (arith, w .tried-least, m .1))
 
-  -- the parts of a run of two edges or more, each at its own depth, and both at one that is enough for them
-  module _ (depth : ℕ) (s : Progress) (r : Run) (u : Edge) (parts : Split (r .edges)) (enough : r .edges ≤ suc depth)
-      (at-u : u ≡ stickAfter L (half (r .edges)) (r .start)) where
-    first-deep : tryOne s (firstPart r u) ≡ tryRun L tolerance depth s (r .start) (half (r .edges))
-    first-deep =
-        try-deep L tolerance (half (r .edges)) depth s (r .start) (half (r .edges)) (parts .first-some) (omega arith) (omega (arith, parts))
-        (omega (arith, parts))
+  -- the parts of a run of m edges from e, each at its own depth, and both at one that is enough for them
+  module _ (depth : ℕ) (s : Progress) (e u : Edge) {m : ℕ} (parts : Split m) (enough : m ≤ suc depth) (at-u : u ≡ stickAfter L (half m) e) where
+    first-deep : tryOne s e (half m) ≡ tryRun L tolerance depth s e (half m)
+    first-deep = try-deep L tolerance (half m) depth s e (half m) (parts .first-some) (omega arith) (omega (arith, parts)) (omega (arith, parts))
 
-    parts-deep : tryOne (tryOne s (firstPart r u)) (secondPart r u)
-        ≡ tryRun L tolerance depth (tryRun L tolerance depth s (r .start) (half (r .edges))) (stickAfter L (half (r .edges)) (r .start)) (r .edges - half (r .edges))
+    parts-deep : tryOne (tryOne s e (half m)) u (m - half m)
+        ≡ tryRun L tolerance depth (tryRun L tolerance depth s e (half m)) (stickAfter L (half m) e) (m - half m)
     parts-deep =
-        (λ i. tryRun L tolerance (r .edges - half (r .edges)) (first-deep i) (at-u i) (r .edges - half (r .edges)))
-        ∙ try-deep L tolerance (r .edges - half (r .edges)) depth (tryRun L tolerance depth s (r .start) (half (r .edges)))
-        (stickAfter L (half (r .edges)) (r .start)) (r .edges - half (r .edges)) (parts .second-some) (omega arith) (omega (arith, parts)) (omega (arith, parts))
+        (λ i. tryOne (first-deep i) (at-u i) (m - half m))
+        ∙ try-deep L tolerance (m - half m) depth (tryRun L tolerance depth s e (half m)) (stickAfter L (half m) e) (m - half m)
+        (parts .second-some) (omega arith) (omega (arith, parts)) (omega (arith, parts))
 
-    parts-wait : (others : ℕ) → waitsOfOne s (firstPart r u) (suc others) ++ waitsOfOne (tryOne s (firstPart r u)) (secondPart r u) others
-        ≡ waitsOfRun L tolerance depth s (r .start) (half (r .edges)) (suc others)
-        ++ waitsOfRun L tolerance depth (tryRun L tolerance depth s (r .start) (half (r .edges))) (stickAfter L (half (r .edges)) (r .start))
-        (r .edges - half (r .edges)) others
+    parts-wait : (others : ℕ) → waitsOfOne s e (half m) (suc others) ++ waitsOfOne (tryOne s e (half m)) u (m - half m) others
+        ≡ waitsOfRun L tolerance depth s e (half m) (suc others)
+        ++ waitsOfRun L tolerance depth (tryRun L tolerance depth s e (half m)) (stickAfter L (half m) e) (m - half m) others
     parts-wait others =
-        let first = waits-deep L tolerance (half (r .edges)) depth s (r .start) (half (r .edges)) (suc others) (parts .first-some) (omega arith)
-        (omega (arith, parts)) (omega (arith, parts)) in
-        let second = (λ i. waitsOfRun L tolerance (r .edges - half (r .edges)) (first-deep i) (at-u i) (r .edges - half (r .edges)) others)
-        ∙ waits-deep L tolerance (r .edges - half (r .edges)) depth (tryRun L tolerance depth s (r .start) (half (r .edges)))
-        (stickAfter L (half (r .edges)) (r .start)) (r .edges - half (r .edges)) others (parts .second-some) (omega arith) (omega (arith, parts))
+        let first = waits-deep L tolerance (half m) depth s e (half m) (suc others) (parts .first-some) (omega arith) (omega (arith, parts))
         (omega (arith, parts)) in
+        let second = (λ i. waitsOfOne (first-deep i) (at-u i) (m - half m) others)
+        ∙ waits-deep L tolerance (m - half m) depth (tryRun L tolerance depth s e (half m)) (stickAfter L (half m) e) (m - half m) others
+        (parts .second-some) (omega arith) (omega (arith, parts)) (omega (arith, parts)) in
         λ i. first i ++ second i
 
   -- a run that passes
-  module _ (s : Progress) (r : Run) (some : 1 ≤ r .edges) (pass : passes L (s .table) tolerance (r .start) (r .edges) ≡ true) where
-    deep : r .edges ≡ suc (r .edges - 1)
+  module _ (s : Progress) (e : Edge) (m : ℕ) (some : 1 ≤ m) (pass : passes L (s .table) tolerance e m ≡ true) where
+    deep : m ≡ suc (m - 1)
     deep = omega arith
 
-    run-passed : tryOne s r
-        ≡ record { table = foldl (without L) (s .table) (between L (r .start) (r .edges)); removed = s .removed + (r .edges - 1); tried = s .tried + 1 }
+    run-passed : tryOne s e m
+        ≡ record { table = foldl (without L) (s .table) (between L e m); removed = s .removed + (m - 1); tried = s .tried + 1 }
     run-passed =
-        ap (λ (d : ℕ). tryRun L tolerance d s (r .start) (r .edges)) deep ∙ try-passes L tolerance (r .edges - 1) s (r .start) (r .edges) pass
-        ∙ inner-is L (oneTried s) (r .start) (r .edges)
+        ap (λ (d : ℕ). tryRun L tolerance d s e m) deep ∙ try-passes L tolerance (m - 1) s e m pass ∙ inner-is L (oneTried s) e m
 
-    passed-waits : (others : ℕ) → waitsOfOne s r others ≡ suc others ∷ []
+    passed-waits : (others : ℕ) → waitsOfOne s e m others ≡ suc others ∷ []
     passed-waits others =
-        ap (λ (d : ℕ). waitsOfRun L tolerance d s (r .start) (r .edges) others) deep
-        ∙ waits-passes L tolerance (r .edges - 1) s (r .start) (r .edges) others pass
+        ap (λ (d : ℕ). waitsOfRun L tolerance d s e m others) deep ∙ waits-passes L tolerance (m - 1) s e m others pass
 
   -- and one that is split
-  module _ (s : Progress) (r : Run) (u : Edge) (no-pass : passes L (s .table) tolerance (r .start) (r .edges) ≡ false)
-      (at-u : u ≡ stickAfter L (half (r .edges)) (r .start)) where
-    parts-of : Split (r .edges)
-    parts-of = split L (s .table) tolerance (r .start) (r .edges) no-pass
+  module _ (s : Progress) (e u : Edge) (m : ℕ) (no-pass : passes L (s .table) tolerance e m ≡ false) (at-u : u ≡ stickAfter L (half m) e) where
+    parts-of : Split m
+    parts-of = split L (s .table) tolerance e m no-pass
 
-    deeper : r .edges ≡ suc (r .edges - 1)
+    deeper : m ≡ suc (m - 1)
     deeper = omega (arith, parts-of .more)
 
-    ruwhole-splits : tryOne s r ≡ tryOne (tryOne (oneTried s) (firstPart r u)) (secondPart r u)
-    ruwhole-splits =
-        ap (λ (d : ℕ). tryRun L tolerance d s (r .start) (r .edges)) deeper
-        ∙ try-splits L tolerance (r .edges - 1) s (r .start) (r .edges) no-pass
-        ∙ sym (parts-deep (r .edges - 1) (oneTried s) r u parts-of (omega (arith, deeper)) at-u)
+    run-split : tryOne s e m ≡ tryOne (tryOne (oneTried s) e (half m)) u (m - half m)
+    run-split =
+        ap (λ (d : ℕ). tryRun L tolerance d s e m) deeper ∙ try-splits L tolerance (m - 1) s e m no-pass
+        ∙ sym (parts-deep (m - 1) (oneTried s) e u parts-of (omega (arith, deeper)) at-u)
 
-    split-waits : (others : ℕ) → waitsOfOne s r others
-        ≡ suc others ∷ (waitsOfOne (oneTried s) (firstPart r u) (suc others) ++ waitsOfOne (tryOne (oneTried s) (firstPart r u)) (secondPart r u) others)
+    split-waits : (others : ℕ) → waitsOfOne s e m others
+        ≡ suc others ∷ (waitsOfOne (oneTried s) e (half m) (suc others) ++ waitsOfOne (tryOne (oneTried s) e (half m)) u (m - half m) others)
     split-waits others =
-        ap (λ (d : ℕ). waitsOfRun L tolerance d s (r .start) (r .edges) others) deeper
-        ∙ waits-splits L tolerance (r .edges - 1) s (r .start) (r .edges) others no-pass
-        ∙ ap (λ (l : List ℕ). suc others ∷ l) (sym (parts-wait (r .edges - 1) (oneTried s) r u parts-of (omega (arith, deeper)) at-u others))
+        ap (λ (d : ℕ). waitsOfRun L tolerance d s e m others) deeper ∙ waits-splits L tolerance (m - 1) s e m others no-pass
+        ∙ ap (λ (l : List ℕ). suc others ∷ l) (sym (parts-wait (m - 1) (oneTried s) e u parts-of (omega (arith, deeper)) at-u others))
 
 -- What is left of a contour
 
--- the whole contour of n sticks from f on, as a run
-abbrev pub wholeRun : Edge → ℕ → Run
-wholeRun f n = record { start = f; end = f; place = 0; edges = n }
-
-module _ (L : Layer) (f : Edge) (n : ℕ) where
-  -- a run of the contour of n sticks from f on
-  pub record OnContour (r : Run) : Type 0 where
+module _ (L : Layer) (n : ℕ) where
+  -- a run of a contour of n sticks, from e, which is p steps on
+  pub record RunFrom (e : Edge) (p : ℕ) (r : Run) : Type 0 where
     pub some : 1 ≤ r .edges
-    pub here : r .start ≡ stickAfter L (r .place) f
-    pub ends : r .end ≡ stickAfter L (r .edges) (r .start)
-    pub inside : r .place + r .edges ≤ n
+    pub ends : r .end ≡ stickAfter L (r .edges) e
+    pub inside : p + r .edges ≤ n
 
-  abbrev pub EachOnContour : List Run → Type 0
-  EachOnContour [] = Unit {0}
-  EachOnContour (r ∷ l) = OnContour r × EachOnContour l
+  abbrev pub RunsFrom : Edge → ℕ → List Run → Type 0
+  RunsFrom e p [] = Unit {0}
+  RunsFrom e p (r ∷ l) = RunFrom e p r × RunsFrom (r .end) (p + r .edges) l
 
-  parts-on : (r : Run) (u : Edge) → OnContour r → Split (r .edges) → u ≡ stickAfter L (half (r .edges)) (r .start)
-      → OnContour (firstPart r u) × OnContour (secondPart r u)
-  parts-on r u on parts at-u = (
-    record { some = parts .first-some; here = on .here; ends = at-u; inside = omega (arith, on .inside, parts) },
+  parts-from : (e u : Edge) (p : ℕ) (r : Run) → RunFrom e p r → Split (r .edges) → u ≡ stickAfter L (half (r .edges)) e
+      → RunFrom e p (firstPart r u) × RunFrom u (p + half (r .edges)) (secondPart r)
+  parts-from e u p r from parts at-u = (
+    record { some = parts .first-some; ends = at-u; inside = omega (arith, from .inside, parts) },
     record {
       some = parts .second-some;
-      here = steps-on L f (r .place) (half (r .edges)) (on .here) at-u;
-      ends = steps-rest L (r .start) (half (r .edges)) (r .edges) (omega (arith, parts)) at-u (on .ends);
-      inside = omega (arith, on .inside, parts);
+      ends = steps-rest L e (half (r .edges)) (r .edges) (omega (arith, parts)) at-u (from .ends);
+      inside = omega (arith, from .inside, parts);
     },
   )
 
 module _ (L : Layer) (tolerance : ℕ) (f : Edge) (n : ℕ) (t₀ : List ℕ) where
-  -- after s the runs l wait: as many as the recursion says, and trying them gives what it gives
-  pub record RunsLeft (s : Progress) (l : List Run) : Type 0 where
-    pub on : EachOnContour L f n l
-    pub numbers : drop (s .tried) (waitsOf L tolerance (begun t₀) f) ≡ waitsOfAll L tolerance s l
-    pub gives : tryAll L tolerance s l ≡ simplifyContour L tolerance (begun t₀) f
+  -- after s the runs l wait, from e on, which is p steps on from f: as many as the recursion says, and trying them gives what it gives
+  pub record RunsLeft (s : Progress) (e : Edge) (p : ℕ) (l : List Run) : Type 0 where
+    pub here : e ≡ stickAfter L p f
+    pub runs : RunsFrom L n e p l
+    pub numbers : drop (s .tried) (waitsOf L tolerance (begun t₀) f) ≡ waitsOfAll L tolerance s e l
+    pub gives : tryAll L tolerance s e l ≡ simplifyContour L tolerance (begun t₀) f
 
 -- a list of which the first numbers are done: the next one, and what is left after it
 next-number : (k : ℕ) (l : List ℕ) {x : ℕ} {m : List ℕ} → drop k l ≡ x ∷ m → (getD l k 0 ≡ x) × (drop (k + 1) l ≡ m)
@@ -199,107 +185,105 @@ next-number k l e =
     (ap (λ (j : ℕ). getD l j 0) (sym same) ∙ sym (getD-drop k l 0 0) ∙ ap (λ (r : List ℕ). getD r 0 0) e, sym (drop-drop 1 k l) ∙ ap (drop 1) e)
 
 module _ {L : Layer} {f : Edge} {n : ℕ} (contour : HasSticks L f n) where
+  -- the whole contour, as a run that is cut in two
   pub whole-splits : Split n
   whole-splits = split-of n (omega (arith, contour .all, four-sticks L (contour .sound) f (contour .stick)))
 
-  -- the whole contour, as a run that is cut in two
-  pub whole-on : OnContour L f n (wholeRun f n)
-  whole-on = record { some = omega (arith, whole-splits); here = no-steps L f; ends = once-round contour; inside = omega arith }
+  pub whole-from : RunFrom L n f 0 (record { edges = n; end = f })
+  whole-from = record { some = omega (arith, whole-splits); ends = once-round contour; inside = omega arith }
 
   -- what code that works on a run of the contour is given
-  module _ {r : Run} (on : OnContour L f n r) where
-    pub run-lent : {table : List ℕ} → length table ≡ edgeCount (L .size) → RunLent L table (r .start) (r .end) (r .edges)
+  module _ {e : Edge} {p : ℕ} {r : Run} (here : e ≡ stickAfter L p f) (from : RunFrom L n e p r) where
+    pub run-lent : {table : List ℕ} → length table ≡ edgeCount (L .size) → RunLent L table e (r .end) (r .edges)
     run-lent exact =
-        record {
-          sound = contour .sound;
-          exact = exact;
-          stick = stick-on L f (r .place) (contour .sound) (contour .stick) (on .here);
-          ends = on .ends;
-        }
+        record { sound = contour .sound; exact = exact; stick = stick-on L f p (contour .sound) (contour .stick) here; ends = from .ends }
 
-    pub middle-along : Split (r .edges) → {marks : List ℕ} → MarkedAlong L f marks → Along L marks (r .start) (r .place) (half (r .edges))
-    middle-along parts marked =
+    pub middle-along : {h : ℕ} → h ≡ half (r .edges) → {marks : List ℕ} → MarkedAlong L f marks → Along L marks e p h
+    middle-along at-h marked =
         record {
           sound = contour .sound;
           from = f;
           stick = contour .stick;
           marked = marked;
-          here = on .here;
-          inside = omega (arith, on .inside, parts, contour .all);
+          here = here;
+          inside = omega (arith, at-h, from, contour .all);
         }
-
-    pub place-small : r .place + r .edges ≤ 2095104
-    place-small = omega (arith, on .inside, most-sticks contour)
 
   module _ (tolerance : ℕ) (t₀ : List ℕ) where
     left-start : {u : Edge} → u ≡ stickAfter L (half n) f
-        → RunsLeft L tolerance f n t₀ (begun t₀) (firstPart (wholeRun f n) u ∷ secondPart (wholeRun f n) u ∷ [])
+        → RunsLeft L tolerance f n t₀ (begun t₀) f 0 (record { edges = half n; end = u } ∷ record { edges = n - half n; end = f } ∷ [])
     left-start {u} at-u =
-        let whole : Run = wholeRun f n in
-        let on = parts-on L f n whole u whole-on whole-splits at-u in
+        let from = parts-from L n f u 0 (record { edges = n; end = f }) whole-from whole-splits at-u in
         record {
-          on = (on .0, (on .1, tt));
+          here = no-steps L f;
+          runs = (from .0, (from .1, tt));
           numbers = waits-contour L tolerance (begun t₀) f
               ∙ ap (λ (k : ℕ). waitsOfRun L tolerance k (begun t₀) f (half k) 1
               ++ waitsOfRun L tolerance k (tryRun L tolerance k (begun t₀) f (half k)) (stickAfter L (half k) f) (k - half k) 0) (sym (contour .all))
-              ∙ sym (parts-wait L tolerance n (begun t₀) whole u whole-splits (omega arith) at-u 0)
-              ∙ ap (λ (l : List ℕ). waitsOfOne L tolerance (begun t₀) (firstPart whole u) 1 ++ l) (sym (append-nil _));
-          gives = parts-deep L tolerance n (begun t₀) whole u whole-splits (omega arith) at-u
+              ∙ sym (parts-wait L tolerance n (begun t₀) f u whole-splits (omega arith) at-u 0)
+              ∙ ap (λ (l : List ℕ). waitsOfOne L tolerance (begun t₀) f (half n) 1 ++ l) (sym (append-nil _));
+          gives = parts-deep L tolerance n (begun t₀) f u whole-splits (omega arith) at-u
               ∙ ap (λ (k : ℕ). tryRun L tolerance k (tryRun L tolerance k (begun t₀) f (half k)) (stickAfter L (half k) f) (k - half k)) (contour .all)
               ∙ sym (contour-runs L tolerance (begun t₀) f);
         }
 
-    module _ {s : Progress} {r : Run} {l : List Run} (now : RunsLeft L tolerance f n t₀ s (r ∷ l)) where
-      left-passed : passes L (s .table) tolerance (r .start) (r .edges) ≡ true
+    module _ {s : Progress} {e : Edge} {p : ℕ} {r : Run} {l : List Run} (now : RunsLeft L tolerance f n t₀ s e p (r ∷ l)) where
+      left-passed : passes L (s .table) tolerance e (r .edges) ≡ true
           → RunsLeft L tolerance f n t₀ (record {
-            table = foldl (without L) (s .table) (between L (r .start) (r .edges));
+            table = foldl (without L) (s .table) (between L e (r .edges));
             removed = s .removed + (r .edges - 1);
             tried = s .tried + 1;
-          }) l
+          }) (r .end) (p + r .edges) l
       left-passed pass =
-          let is = run-passed L tolerance s r (now .on .0 .some) pass in
-          let counts = passed-waits L tolerance s r (now .on .0 .some) pass (length l) in
+          let from = now .runs .0 in
+          let is = run-passed L tolerance s e (r .edges) (from .some) pass in
+          let counts = passed-waits L tolerance s e (r .edges) (from .some) pass (length l) in
           record {
-            on = now .on .1;
+            here = steps-on L f p (r .edges) (now .here) (from .ends);
+            runs = now .runs .1;
             numbers = next-number (s .tried) (waitsOf L tolerance (begun t₀) f)
-                (now .numbers ∙ (λ i. counts i ++ waitsOfAll L tolerance (is i) l)) .1;
-            gives = ap (λ (x : Progress). tryAll L tolerance x l) (sym is) ∙ now .gives;
+                (now .numbers ∙ (λ i. counts i ++ waitsOfAll L tolerance (is i) (r .end) l)) .1;
+            gives = ap (λ (x : Progress). tryAll L tolerance x (r .end) l) (sym is) ∙ now .gives;
           }
 
-      left-split : {u : Edge} → passes L (s .table) tolerance (r .start) (r .edges) ≡ false → u ≡ stickAfter L (half (r .edges)) (r .start)
-          → RunsLeft L tolerance f n t₀ (oneTried s) (firstPart r u ∷ secondPart r u ∷ l)
+      left-split : {u : Edge} → passes L (s .table) tolerance e (r .edges) ≡ false → u ≡ stickAfter L (half (r .edges)) e
+          → RunsLeft L tolerance f n t₀ (oneTried s) e p (firstPart r u ∷ secondPart r ∷ l)
       left-split {u} no-pass at-u =
-          let is = ruwhole-splits L tolerance s r u no-pass at-u in
-          let counts = split-waits L tolerance s r u no-pass at-u (length l) in
-          let on = parts-on L f n r u (now .on .0) (parts-of L tolerance s r u no-pass at-u) at-u in
-          let first : Progress = tryOne L tolerance (oneTried s) (firstPart r u) in
-          let second : Progress = tryOne L tolerance first (secondPart r u) in
-          let in-turn = append-assoc (waitsOfOne L tolerance (oneTried s) (firstPart r u) (suc (length l)))
-          (waitsOfOne L tolerance first (secondPart r u) (length l)) (waitsOfAll L tolerance second l) in
+          let m : ℕ = r .edges in
+          let is = run-split L tolerance s e u m no-pass at-u in
+          let counts = split-waits L tolerance s e u m no-pass at-u (length l) in
+          let parts = parts-of L tolerance s e u m no-pass at-u in
+          let from = parts-from L n e u p r (now .runs .0) parts at-u in
+          let sum : p + m ≡ p + half m + (m - half m) = omega (arith, parts) in
+          let first : Progress = tryOne L tolerance (oneTried s) e (half m) in
+          let in-turn = append-assoc (waitsOfOne L tolerance (oneTried s) e (half m) (suc (length l)))
+          (waitsOfOne L tolerance first u (m - half m) (length l)) (waitsOfAll L tolerance (tryOne L tolerance first u (m - half m)) (r .end) l) in
           record {
-            on = (on .0, (on .1, now .on .1));
+            here = now .here;
+            runs = (from .0, (from .1, rw sum at (now .runs .1)));
             numbers = next-number (s .tried) (waitsOf L tolerance (begun t₀) f)
-                (now .numbers ∙ (λ i. counts i ++ waitsOfAll L tolerance (is i) l) ∙ ap (λ (m : List ℕ). suc (length l) ∷ m) in-turn) .1;
-            gives = ap (λ (x : Progress). tryAll L tolerance x l) (sym is) ∙ now .gives;
+                (now .numbers ∙ (λ i. counts i ++ waitsOfAll L tolerance (is i) (r .end) l) ∙ ap (λ (w : List ℕ). suc (length l) ∷ w) in-turn) .1;
+            gives = ap (λ (x : Progress). tryAll L tolerance x (r .end) l) (sym is) ∙ now .gives;
           }
 
       -- so few wait
       left-few : suc (length l) ≤ 22
       left-few =
-          let others = waitsOfAll L tolerance (tryOne L tolerance s r) l in
-          let next : (m : List ℕ) × (waitsOfOne L tolerance s r (length l) ≡ suc (length l) ∷ m) =
-          both-sides (passes L (s .table) tolerance (r .start) (r .edges))
-          (λ y. ([], passed-waits L tolerance s r (now .on .0 .some) y (length l)))
-          (λ f. (_, split-waits L tolerance s r (stickAfter L (half (r .edges)) (r .start)) f refl (length l))) in
-          let number = next-number (s .tried) (waitsOf L tolerance (begun t₀) f) (now .numbers ∙ ap (λ (m : List ℕ). m ++ others) (next .1)) in
+          let m : ℕ = r .edges in
+          let others = waitsOfAll L tolerance (tryOne L tolerance s e m) (r .end) l in
+          let next : (w : List ℕ) × (waitsOfOne L tolerance s e m (length l) ≡ suc (length l) ∷ w) =
+          both-sides (passes L (s .table) tolerance e m)
+          (λ y. ([], passed-waits L tolerance s e m (now .runs .0 .some) y (length l)))
+          (λ f. (_, split-waits L tolerance s e (stickAfter L (half m) e) m f refl (length l))) in
+          let number = next-number (s .tried) (waitsOf L tolerance (begun t₀) f) (now .numbers ∙ ap (λ (w : List ℕ). w ++ others) (next .1)) in
           let most = few-wait (record { sound = contour .sound; stick = contour .stick }) tolerance (begun t₀) (s .tried) in
           omega (arith, number .0, most)
 
     -- the counts are small, and no more are tried than in the end
-    left-small : (s : Progress) (l : List Run) → RunsLeft L tolerance f n t₀ s l
+    left-small : (s : Progress) (e : Edge) (p : ℕ) (l : List Run) → RunsLeft L tolerance f n t₀ s e p l
         → (s .removed ≤ 2095104) × (s .tried ≤ 4190208) × (s .tried ≤ simplifyContour L tolerance (begun t₀) f .tried)
-    left-small s l now =
-        let a = rw (now .gives) at (all-more L tolerance s l) in
+    left-small s e p l now =
+        let a = rw (now .gives) at (all-more L tolerance s e l) in
         let w = contour-bounds L tolerance (begun t₀) f in
         let c = most-sticks contour in
         (omega (arith, a .0, w .removed-most, contour .all), omega (arith, a .1, w .tried-most, contour .all), a .1)
@@ -307,89 +291,79 @@ module _ {L : Layer} {f : Edge} {n : ℕ} (contour : HasSticks L f n) where
 -- The loop: the runs that are left stand in an array
 
 -- what stands past the end of an array of runs
-abbrev pub noEdge : Edge
-noEdge = record { vertical = false; column = 0; row = 0 }
-
 abbrev pub noRun : Run
-noRun = record { start = noEdge; end = noEdge; place = 0; edges = 0 }
+noRun = record { edges = 0; end = record { vertical = false; column = 0; row = 0 } }
 
 -- the last of the first `top` of an array
 abbrev pub taken : List Run → ℕ → Run
 taken runs top = getD runs (top - 1) noRun
 
--- where the contour begins whose two runs an array starts with: the first of them stands above the second
-abbrev pub beginning : List Run → Edge
-beginning runs = getD runs 1 noRun .start
-
 module _ (L : Layer) (tolerance : ℕ) (f : Edge) (n : ℕ) (t₀ : List ℕ) where
   -- what holds where the loop begins anew
-  pub record Pending (table : List ℕ) (runs : List Run) (top removed tried : ℕ) : Type 0 where
+  pub record Pending (table : List ℕ) (runs : List Run) (top : ℕ) (e : Edge) (p removed tried : ℕ) : Type 0 where
     pub same-length : length table ≡ length t₀
     pub sized : length runs ≡ 22
-    pub left : RunsLeft L tolerance f n t₀ (record { table = table; removed = removed; tried = tried }) (waiting noRun runs top)
+    pub left : RunsLeft L tolerance f n t₀ (record { table = table; removed = removed; tried = tried }) e p (waiting noRun runs top)
 
 module _ {L : Layer} {f : Edge} {n : ℕ} (contour : HasSticks L f n) where
   -- at the start the two runs of the contour wait
   pub pending-start : {tolerance : ℕ} {t₀ : List ℕ} (runs : List Run) {u : Edge} {first second : Run} → length runs ≡ 22 → u ≡ stickAfter L (half n) f
-      → first ≡ firstPart (wholeRun f n) u → second ≡ secondPart (wholeRun f n) u
-      → Pending L tolerance (first .start) n t₀ t₀ (set (set runs 0 second) 1 first) 2 0 0
+      → first ≡ record { edges = half n; end = u } → second ≡ record { edges = n - half n; end = f }
+      → Pending L tolerance f (length (contourOf L f)) t₀ t₀ (set (set runs 0 second) 1 first) 2 f 0 0 0
   pending-start {tolerance} {t₀} runs {u} {first} {second} sized at-u is-first is-second =
-      let parts : first ∷ second ∷ [] ≡ firstPart (wholeRun f n) u ∷ secondPart (wholeRun f n) u ∷ [] = λ i. is-first i ∷ is-second i ∷ [] in
-      let from : f ≡ first .start = sym (ap (λ (r : Run). r .start) is-first) in
-      subst (λ (x : Edge). Pending L tolerance x n t₀ t₀ (set (set runs 0 second) 1 first) 2 0 0) from (record {
+      let parts : first ∷ second ∷ [] ≡ record { edges = half n; end = u } ∷ record { edges = n - half n; end = f } ∷ [] =
+      λ i. is-first i ∷ is-second i ∷ [] in
+      subst (λ (k : ℕ). Pending L tolerance f k t₀ t₀ (set (set runs 0 second) 1 first) 2 f 0 0 0) (contour .all) (record {
         same-length = refl;
         sized = length-set (set runs 0 second) 1 first ∙ length-set runs 0 second ∙ sized;
         left = rw (waiting-two noRun runs 0 second first (omega (arith, sized)), parts) (left-start contour tolerance t₀ at-u);
       })
 
-  module _ {tolerance : ℕ} {t₀ table : List ℕ} {runs : List Run} {top removed tried : ℕ} (now : Pending L tolerance f n t₀ table runs top removed tried) where
+  module _ {tolerance : ℕ} {t₀ table : List ℕ} {runs : List Run} {top : ℕ} {e : Edge} {p removed tried : ℕ}
+      (now : Pending L tolerance f n t₀ table runs top e p removed tried) where
     pub counts-small : (removed ≤ 2095104) × (tried ≤ 4190208) × (tried ≤ simplifyContour L tolerance (begun t₀) f .tried)
-    counts-small = left-small contour tolerance t₀ _ _ (now .left)
+    counts-small = left-small contour tolerance t₀ _ _ _ _ (now .left)
 
     -- none is left
     pub pending-end : top ≡ 0 → record { table = table; removed = removed; tried = tried } ≡ simplifyContour L tolerance (begun t₀) f
     pending-end none = rw none at (now .left .gives)
 
-    pub few : top ≤ 22
-    few = elim (decLe top 0) [
-      | yes h ↦ omega arith
-      | no g ↦
-          let l = left-few contour tolerance t₀ (rw (waiting-less noRun runs top (omega arith)) at (now .left)) in
-          omega (arith, l, waiting-length noRun runs (top - 1))
-    ]
-
     -- the last one is taken
     module _ (some : 0 < top) where
-      here : RunsLeft L tolerance f n t₀ (record { table = table; removed = removed; tried = tried }) (taken runs top ∷ waiting noRun runs (top - 1))
+      here : RunsLeft L tolerance f n t₀ (record { table = table; removed = removed; tried = tried }) e p (taken runs top ∷ waiting noRun runs (top - 1))
       here = rw (waiting-less noRun runs top some) at (now .left)
 
-      pub taken-on : OnContour L f n (taken runs top)
-      taken-on = here .on .0
+      pub few : top ≤ 22
+      few = omega (arith, left-few contour tolerance t₀ here, waiting-length noRun runs (top - 1))
 
-      pub pending-passed : passes L table tolerance (taken runs top .start) (taken runs top .edges) ≡ true → {table′ : List ℕ}
-          → table′ ≡ foldl (without L) table (between L (taken runs top .start) (taken runs top .edges))
-          → Pending L tolerance f n t₀ table′ runs (top - 1) (removed + (taken runs top .edges - 1)) (tried + 1)
+      pub taken-from : RunFrom L n e p (taken runs top)
+      taken-from = here .runs .0
+
+      pub place-small : p + taken runs top .edges ≤ 2095104
+      place-small = omega (arith, taken-from .inside, most-sticks contour)
+
+      pub pending-passed : passes L table tolerance e (taken runs top .edges) ≡ true → {table′ : List ℕ}
+          → table′ ≡ foldl (without L) table (between L e (taken runs top .edges))
+          → Pending L tolerance f n t₀ table′ runs (top - 1) (taken runs top .end) (p + taken runs top .edges) (removed + (taken runs top .edges - 1)) (tried + 1)
       pending-passed pass {table′} is =
           record {
-            same-length = ap length is ∙ length-inner L (between L (taken runs top .start) (taken runs top .edges)) table ∙ now .same-length;
+            same-length = ap length is ∙ length-inner L (between L e (taken runs top .edges)) table ∙ now .same-length;
             sized = now .sized;
             left = rw is (left-passed contour tolerance t₀ here pass);
           }
 
-      module _ (no-pass : passes L table tolerance (taken runs top .start) (taken runs top .edges) ≡ false) where
-        pub taken-splits : Split (taken runs top .edges)
-        taken-splits = split L table tolerance (taken runs top .start) (taken runs top .edges) no-pass
-
+      module _ (no-pass : passes L table tolerance e (taken runs top .edges) ≡ false) where
         pub room : top - 1 + 2 ≤ 22
         room =
             let l = left-few contour tolerance t₀ (left-split contour tolerance t₀ here no-pass refl) in
             omega (arith, l, waiting-length noRun runs (top - 1))
 
-        pub pending-split : {u : Edge} {first second : Run} → u ≡ stickAfter L (half (taken runs top .edges)) (taken runs top .start) → first ≡ firstPart (taken runs top) u → second ≡ secondPart (taken runs top) u
-            → Pending L tolerance f n t₀ table (set (set runs (top - 1) second) (top - 1 + 1) first) (top - 1 + 2) removed (tried + 1)
+        pub pending-split : {u : Edge} {first second : Run} → u ≡ stickAfter L (half (taken runs top .edges)) e
+            → first ≡ firstPart (taken runs top) u → second ≡ secondPart (taken runs top)
+            → Pending L tolerance f n t₀ table (set (set runs (top - 1) second) (top - 1 + 1) first) (top - 1 + 2) e p removed (tried + 1)
         pending-split {u} {first} {second} at-u is-first is-second =
             let rest : List Run = waiting noRun runs (top - 1) in
-            let parts : first ∷ second ∷ rest ≡ firstPart (taken runs top) u ∷ secondPart (taken runs top) u ∷ rest = λ i. is-first i ∷ is-second i ∷ rest in
+            let parts : first ∷ second ∷ rest ≡ firstPart (taken runs top) u ∷ secondPart (taken runs top) ∷ rest = λ i. is-first i ∷ is-second i ∷ rest in
             record {
               same-length = now .same-length;
               sized = length-set (set runs (top - 1) second) (top - 1 + 1) first ∙ length-set runs (top - 1) second ∙ now .sized;

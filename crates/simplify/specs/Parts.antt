@@ -1,7 +1,7 @@
 -- What the contracts of the code cite besides: simplifying from a table on, counted from 0, and what trying the runs of a contour is given.
 use mathlib.Core.Path.{_≡_}
 use mathlib.Core.List.{List}
-use Prim.Native.Nat.{ℕ, _+_, _-_}
+use Prim.Native.Nat.{ℕ, _-_}
 use lib.ListN.{length}
 use Rattle.grid.specs.Layer.{Layer}
 use Rattle.grid.specs.Edges.{edgeCount}
@@ -20,13 +20,12 @@ begun t = record { table = t; removed = 0; tried = 0 }
 abbrev pub reached : RunCounts → List ℕ → Progress
 reached r t = record { table = t; removed = r .removed; tried = r .tried }
 
--- the parts of a run that is split at its middle, "its first part having half its edges rounded down"
+-- the parts of a run, "its first part having half its edges rounded down"
 abbrev pub firstPart : Run → Edge → Run
-firstPart r middle = record { start = r .start; end = middle; place = r .place; edges = half (r .edges) }
+firstPart r middle = record { edges = half (r .edges); end = middle }
 
-abbrev pub secondPart : Run → Edge → Run
-secondPart r middle =
-    record { start = middle; end = r .end; place = r .place + half (r .edges); edges = r .edges - half (r .edges) }
+abbrev pub secondPart : Run → Run
+secondPart r = record { edges = r .edges - half (r .edges); end = r .end }
 
 -- a contour of n sticks from f on, a table with an entry for each edge of the layer, and marks along the contour, or none
 pub record ContourLent (L : Layer) (t : List ℕ) (f : Edge) (n : ℕ) (marks : List ℕ) : Type 0 where

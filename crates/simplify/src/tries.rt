@@ -8,11 +8,8 @@ use run::put_marks;
 use run::remove_inner;
 use run::stick_at;
 ghost use mathlib.Core.Path.{_≡_};
-ghost use Prim.Native.Nat.{_+_, _≤_};
 ghost use Rattle.grid.specs.Layer.{layerOf};
 ghost use Rattle.table.specs.Lent.{LentAt};
-ghost use Rattle.run.specs.Runs.{stickAfter};
-ghost use Rattle.run.specs.Marks.{Along};
 ghost use Rattle.simplify.specs.Runs.{half, simplifyContour};
 ghost use Rattle.simplify.specs.Parts.{begun, reached, firstPart, secondPart, ContourLent};
 
@@ -22,13 +19,10 @@ const LONG_CONTOUR: usize = 4096;
 // How many runs can wait.
 const ROOM: usize = 22;
 
-// A run of a contour: the sticks where it starts and ends, how many steps lead to its start from the contour's first stick, and how many edges
-// it has.
+// A run that waits: how many edges it has, and the stick where it ends. It starts where the one that is taken before it ends.
 pub struct Run {
-    pub start: Edge,
-    pub end: Edge,
-    pub place: usize,
     pub edges: usize,
+    pub end: Edge,
 }
 
 // How many vertices were removed, and how many runs tried.
@@ -44,70 +38,40 @@ fn half_of(n: usize) -> usize
     n / 2
 }
 
-// The stick where the first part of a run ends and the second one starts.
-fn middle_of(size: Size, bitmap: &[u8], marks: &[u32], run: Run) -> Edge
-    requires { ⌜ Along (layerOf size (now bitmap)) (now marks) (run .start) (run .place) (half (run .edges)) ⌝ }
-    ensures { λ r. ⌜ r ≡ stickAfter (layerOf size (now (bitmap .entry))) (half (run .edges)) (run .start) ⌝ }
+// The first part of a run, which ends at the stick `end`.
+fn first_part(run: Run, end: Edge) -> Run
+    ensures { λ r. ⌜ r ≡ firstPart run end ⌝ }
 {
-    stick_at(
-        size,
-        bitmap,
-        marks,
-        run.start,
-        run.place,
-        half_of(run.edges),
-    )
+    let edges = half_of(run.edges);
+    Run { edges, end }
 }
 
-fn first_part(run: Run, middle: Edge) -> Run
-    ensures { λ r. ⌜ r ≡ firstPart run middle ⌝ }
+fn second_part(run: Run) -> Run
+    ensures { λ r. ⌜ r ≡ secondPart run ⌝ }
 {
-    let start = run.start;
-    Run {
-        start,
-        end: middle,
-        place: run.place,
-        edges: half_of(run.edges),
-    }
-}
-
-fn second_part(run: Run, middle: Edge) -> Run
-    requires { ⌜ run .place + run .edges ≤ 2095104 ⌝ }
-    ensures { λ r. ⌜ r ≡ secondPart run middle ⌝ }
-{
+    let edges = run.edges - half_of(run.edges);
     let end = run.end;
-    let h = half_of(run.edges);
-    Run {
-        start: middle,
-        end,
-        place: run.place + h,
-        edges: run.edges - h,
-    }
+    Run { edges, end }
 }
 
-// Tries the two runs of the contour of n sticks that starts at `first`, and the parts of those that do not pass. The first `top` of `runs` wait,
-// and the last of them is taken.
+// Tries the two runs of a whole contour, and the parts of those that do not pass. The first `top` of `runs` wait, and the last of them is taken.
+// It starts at the stick `at`, which is `place` steps on from where the contour starts.
 fn try_runs(
     size: Size,
     bitmap: &[u8],
     table: &mut [u16],
     t: u8,
     marks: &[u32],
-    first: Edge,
-    n: usize,
+    whole: Run,
 ) -> RunCounts
-    requires { ⌜ ContourLent (layerOf size (now bitmap)) (now table) first n (now marks) ⌝ }
-    ensures { λ r. ⌜ reached r (now (table .exit)) ≡ simplifyContour (layerOf size (now (bitmap .entry))) t (begun (now (table .entry))) first ⌝ }
+    requires { ⌜ ContourLent (layerOf size (now bitmap)) (now table) (whole .end) (whole .edges) (now marks) ⌝ }
+    ensures { λ r. ⌜ reached r (now (table .exit)) ≡ simplifyContour (layerOf size (now (bitmap .entry))) t (begun (now (table .entry))) (whole .end) ⌝ }
 {
-    let whole = Run {
-        start: first,
-        end: first,
-        place: 0,
-        edges: n,
-    };
-    let middle = middle_of(size, bitmap, marks, whole);
-    let mut runs: [Run; ROOM] = [whole; ROOM];
-    runs[0] = second_part(whole, middle);
+    let mut at = whole.end;
+    let mut place: usize = 0;
+    let back = second_part(whole);
+    let mut runs: [Run; ROOM] = [back; ROOM];
+    let middle = stick_at(size, bitmap, marks, at, place, half_of(whole.edges));
     runs[1] = first_part(whole, middle);
     let mut top: usize = 2;
     let mut removed: usize = 0;
@@ -116,12 +80,14 @@ fn try_runs(
         top -= 1;
         let run = runs[top];
         tried += 1;
-        if passes_run(size, bitmap, table, t, run.start, run.end, run.edges) {
-            remove_inner(size, bitmap, table, run.start, run.edges);
+        if passes_run(size, bitmap, table, t, at, run.end, run.edges) {
+            remove_inner(size, bitmap, table, at, run.edges);
             removed += run.edges - 1;
+            place += run.edges;
+            at = run.end;
         } else {
-            let middle = middle_of(size, bitmap, marks, run);
-            runs[top] = second_part(run, middle);
+            let middle = stick_at(size, bitmap, marks, at, place, half_of(run.edges));
+            runs[top] = second_part(run);
             runs[top + 1] = first_part(run, middle);
             top += 2;
         }
@@ -140,12 +106,13 @@ pub fn simplify_contour(
     requires { ⌜ LentAt (layerOf size (now bitmap)) (now table) first ⌝ }
     ensures { λ r. ⌜ reached r (now (table .exit)) ≡ simplifyContour (layerOf size (now (bitmap .entry))) t (begun (now (table .entry))) first ⌝ }
 {
-    let n = contour_length(size, bitmap, first);
-    if LONG_CONTOUR <= n {
+    let edges = contour_length(size, bitmap, first);
+    let whole = Run { edges, end: first };
+    if LONG_CONTOUR <= edges {
         let mut marks: [u32; PLACES] = [0; PLACES];
-        put_marks(size, bitmap, first, n, &mut marks);
-        return try_runs(size, bitmap, table, t, &marks, first, n);
+        put_marks(size, bitmap, first, edges, &mut marks);
+        return try_runs(size, bitmap, table, t, &marks, whole);
     }
     let none: [u32; 1] = [0; 1];
-    try_runs(size, bitmap, table, t, &none[1..], first, n)
+    try_runs(size, bitmap, table, t, &none[1..], whole)
 }

@@ -9,4 +9,4 @@ returns : tie.Need-returns
 returns c = rw (c .before .before .half-of .ensures) refl
 
 pub second-part-spec : {M : Type 1} → statement M
-second-part-spec = tie.close (tie.spec (λ c κs. search needs) (λ c. search needs) (λ c. search needs) returns)
+second-part-spec = tie.close (tie.spec (λ c κs. search needs) (λ c. omega (arith, c .before .half-of .ensures)) returns)
