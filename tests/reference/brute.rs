@@ -3,6 +3,7 @@
 
 use crate::chord::Point;
 use crate::layer::Layer;
+use crate::pending::{by_loop, Order, Run};
 
 /// "A point is X, Y and a D above 0, standing for X/D and Y/D in 1/256 of the
 /// pitch."
@@ -187,30 +188,43 @@ pub fn edit_tolerance(
     })
 }
 
-/// Simplify on one contour with a list of runs to try: the table after it and the
-/// runs tried.
-pub fn simplify(layer: &Layer, contour: &[usize], table: &mut [u16], t: u8) -> u64 {
-    let n = contour.len();
-    let mut open = vec![(0, n / 2), (n / 2, n)];
-    let mut tried = 0;
-    while let Some((start, end)) = open.pop() {
-        tried += 1;
-        let between: Vec<usize> = (start + 1..end).map(|i| contour[i]).collect();
-        let (from, to) = (contour[start], contour[end % n]);
-        let run = Stroke { from, to, between };
-        match least_tolerance(layer, table, &run) {
-            Some(least) if least <= t as i128 => {
-                for stick in run.between {
-                    table[stick] += 256;
-                }
+/// Does the run pass under T? Then its inner vertices are removed.
+fn remove_if_passing(
+    layer: &Layer,
+    contour: &[usize],
+    table: &mut [u16],
+    t: u8,
+    (start, edges): Run,
+) -> bool {
+    let at = |i: usize| contour[i % contour.len()];
+    let end = start + edges;
+    let run = Stroke {
+        from: at(start),
+        to: at(end),
+        between: (start + 1..end).map(at).collect(),
+    };
+    match least_tolerance(layer, table, &run) {
+        Some(least) if least <= t as i128 => {
+            for stick in run.between {
+                table[stick] += 256;
             }
-            _ => {
-                let middle = start + (end - start) / 2;
-                open.extend([(start, middle), (middle, end)]);
-            }
+            true
         }
+        _ => false,
     }
-    tried
+}
+
+/// Simplify on one contour by Note 4's loop: how many runs wait whenever one is taken.
+pub fn simplify(
+    layer: &Layer,
+    contour: &[usize],
+    table: &mut [u16],
+    t: u8,
+    order: Order,
+) -> Vec<usize> {
+    by_loop(contour.len(), order, |run| {
+        remove_if_passing(layer, contour, table, t, run)
+    })
 }
 
 /// Contours pass between two adjacent samples once where they differ and never

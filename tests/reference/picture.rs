@@ -1,5 +1,5 @@
 // Layers that vectors are made of: random ones, checkerboards, spirals,
-// serpentines, frames, discs, rings, and contours within contours.
+// serpentines, combs, frames, discs, rings, and contours within contours.
 
 use crate::layer::Layer;
 use crate::prng::Rng;
@@ -97,6 +97,31 @@ pub fn lattice(columns: usize, rows: usize) -> Layer {
 pub fn serpentine(w: usize, h: usize) -> Layer {
     drawn(w, h, |c, r| {
         r % 2 == 1 || (r % 4 == 2 && c == w - 2) || (r % 4 == 0 && c == 1)
+    })
+}
+
+/// The way along a serpentine from (1,1) on, cut off after so many samples: a contour of
+/// two sticks for each of them and two more.
+pub fn snake(w: usize, samples: usize) -> Layer {
+    let whole = serpentine(w, 2 * (samples / (w - 1)) + 4);
+    drawn(whole.w, whole.h, |c, r| {
+        let before = (r - 1) / 2 * (w - 1);
+        let along = match r % 4 {
+            1 => c - 1,
+            3 => w - 2 - c,
+            _ => w - 2,
+        };
+        whole.sample(c, r) && before + along < samples
+    })
+}
+
+/// A full layer with diagonal slits, three apart, which are open at the border below
+/// or to the left and end one sample before the border above or to the right. One
+/// contour goes around all of it, as the samples of a slit are joined over corners;
+/// with four sticks for most of them it is longer than a serpentine's.
+pub fn comb(w: usize, h: usize) -> Layer {
+    drawn(w, h, |c, r| {
+        (c + 2 * r) % 3 != 0 || c == w - 2 || r == h - 2
     })
 }
 

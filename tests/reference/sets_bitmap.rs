@@ -125,8 +125,8 @@ pub fn trace(b: &mut Builder) {
     trace_or_counts(b, &plain(Command::Trace));
 }
 
-/// Counts: B, M, P and N only; as the largest layers also the one with the longest
-/// contour and the one with the most contours.
+/// Counts: B, M, P and N only; as the largest layers also one with a contour of a million
+/// sticks and the one with the most contours.
 pub fn counts(b: &mut Builder) {
     let call = &plain(Command::Counts);
     trace_or_counts(b, call);

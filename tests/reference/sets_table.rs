@@ -8,6 +8,7 @@ use crate::layer::Layer;
 use crate::picture;
 use crate::refusals::{ask_1_to_7, not_held, plain, remove_at_random, some_removed, Call};
 use crate::script::Command;
+use crate::sets_pending::pending;
 use crate::sets_settling::settling;
 
 const LIMITS: [u16; 7] = [0, 1, 2, 9, 10, 50, 65535];
@@ -209,6 +210,7 @@ pub fn simplify(b: &mut Builder) {
     b.traced(&large);
     b.add(Command::Smooth { limit: 100 });
     b.add(Command::Simplify { t: 64 });
+    pending(b);
 }
 
 /// Rolls that are not well formed, after some edits that would be done.

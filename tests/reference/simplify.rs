@@ -12,12 +12,11 @@ pub struct Simplified {
     pub tried: u64,
 }
 
-/// One contour under a tolerance.
-struct Runs<'a> {
-    layer: &'a Layer,
-    contour: &'a [usize],
-    t: u8,
-    tried: u64,
+/// The runs of one contour under a tolerance.
+pub struct Runs<'a> {
+    pub layer: &'a Layer,
+    pub contour: &'a [usize],
+    pub t: u8,
 }
 
 impl Runs<'_> {
@@ -27,7 +26,7 @@ impl Runs<'_> {
 
     /// "A run passes if it is a single edge, or if its chord crosses each stick
     /// between and each vertex there would slide at most T."
-    fn passes(&self, table: &[u16], start: usize, edges: usize) -> bool {
+    pub fn passes(&self, table: &[u16], start: usize, edges: usize) -> bool {
         let a = vertex_of(self.layer, table, self.stick(start));
         let b = vertex_of(self.layer, table, self.stick(start + edges));
         (start + 1..start + edges).all(|i| {
@@ -37,20 +36,27 @@ impl Runs<'_> {
         })
     }
 
-    /// "A run that does not pass is split, its first part having half its edges
-    /// rounded down, and each part is tried. Inner vertices of a passing run are
-    /// removed."
-    fn try_run(&mut self, table: &mut [u16], start: usize, edges: usize) {
-        self.tried += 1;
-        if self.passes(table, start, edges) {
+    /// "Inner vertices of a passing run are removed." Does the run pass?
+    pub fn remove_if_passing(&self, table: &mut [u16], start: usize, edges: usize) -> bool {
+        let passes = self.passes(table, start, edges);
+        if passes {
             for i in start + 1..start + edges {
                 table[self.stick(i)] += 256;
             }
-            return;
+        }
+        passes
+    }
+
+    /// "A run that does not pass is split, its first part having half its edges
+    /// rounded down, and each part is tried." The runs tried, this one included.
+    fn try_run(&self, table: &mut [u16], start: usize, edges: usize) -> u64 {
+        if self.remove_if_passing(table, start, edges) {
+            return 1;
         }
         let half = edges / 2;
-        self.try_run(table, start, half);
-        self.try_run(table, start + half, edges - half);
+        let first = self.try_run(table, start, half);
+        let second = self.try_run(table, start + half, edges - half);
+        1 + first + second
     }
 }
 
@@ -68,15 +74,10 @@ pub fn simplify(
     let mut tried = 0;
     for contour in &contours {
         let n = contour.len();
-        let mut runs = Runs {
-            layer: &layer,
-            contour,
-            t,
-            tried: 0,
-        };
-        runs.try_run(table, 0, n / 2);
-        runs.try_run(table, n / 2, n - n / 2);
-        tried += runs.tried;
+        let layer = &layer;
+        let runs = Runs { layer, contour, t };
+        tried += runs.try_run(table, 0, n / 2);
+        tried += runs.try_run(table, n / 2, n - n / 2);
     }
     let removed = table.iter().filter(|&&entry| is_removed(entry)).count();
     Ok(Simplified { removed, tried })

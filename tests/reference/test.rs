@@ -13,6 +13,7 @@ use crate::hold::{contour_is_held, is_kept, is_removed};
 use crate::layer::{ask_1_to_4, Layer};
 use crate::machine::{answers, Machine};
 use crate::order;
+use crate::pending::{self, Order};
 use crate::picture;
 use crate::planner::planner;
 use crate::prng::Rng;
@@ -217,7 +218,7 @@ fn simplified(wrong: &mut Wrong, machine: &mut Machine, layer: &Layer, t: u8) {
     let walks = contours(layer);
     let mut tried = 0;
     for walk in walks.iter().filter(|_| all_kept) {
-        tried += brute::simplify(layer, walk, &mut table, t);
+        tried += brute::simplify(layer, walk, &mut table, t, Order::First).len() as u64;
     }
     let removed = table.iter().filter(|&&entry| is_removed(entry)).count() as u64;
     let wanted = if all_kept {
@@ -571,6 +572,7 @@ pub fn wrong(seed: Option<u64>) -> Vec<String> {
     orders(&mut wrong, rng.next());
     sets(&mut wrong, seed);
     wrong.extend(settling::wrong(&mut rng));
+    wrong.extend(pending::wrong(rng.next()));
     stops(&mut wrong);
     order_shows(&mut wrong);
     wrong
