@@ -12,14 +12,13 @@ use lib.Seq.{getD-set-same, getD-set-other, getD-drop, drop-drop}
 use Rattle.grid.specs.Layer.{Layer}
 use Rattle.grid.specs.Edges.{edgeCount, isStick}
 use Rattle.grid.specs.declared.edge.Edge.{Edge}
-use Rattle.contour.specs.Contours.{contourOf}
 use Rattle.table.specs.Stores.{without}
 use Rattle.drawn.proofs.FourKept.{four-sticks}
 use Rattle.run.specs.Runs.{stickAfter, between, passes, StickOf, HasSticks, RunLent}
 use Rattle.run.specs.Marks.{MarkedAlong, Along}
 use Rattle.run.proofs.Steps.{no-steps, steps-on, steps-rest, stick-on, once-round, most-sticks}
 use Rattle.simplify.specs.Runs.{Progress, half, oneTried, tryRun, simplifyContour}
-use Rattle.simplify.specs.Parts.{begun, firstPart, secondPart}
+use Rattle.simplify.specs.Parts.{begun, runTo}
 use Rattle.simplify.specs.Waiting.{waitsOfRun, waitsOf}
 use Rattle.simplify.specs.declared.tries.Run.{Run}
 use Rattle.simplify.proofs.Trying.{Split, split, split-of, inner-is, length-inner, try-passes, try-splits, try-deep, try-bounds, contour-runs}
@@ -160,7 +159,7 @@ module _ (L : Layer) (n : ℕ) where
   RunsFrom e p (r ∷ l) = RunFrom e p r × RunsFrom (r .end) (p + r .edges) l
 
   parts-from : (e u : Edge) (p : ℕ) (r : Run) → RunFrom e p r → Split (r .edges) → u ≡ stickAfter L (half (r .edges)) e
-      → RunFrom e p (firstPart r u) × RunFrom u (p + half (r .edges)) (secondPart r)
+      → RunFrom e p (runTo (half (r .edges)) u) × RunFrom u (p + half (r .edges)) (runTo (r .edges - half (r .edges)) (r .end))
   parts-from e u p r from parts at-u = (
     record { some = parts .first-some; ends = at-u; inside = omega (arith, from .inside, parts) },
     record {
@@ -189,7 +188,7 @@ module _ {L : Layer} {f : Edge} {n : ℕ} (contour : HasSticks L f n) where
   pub whole-splits : Split n
   whole-splits = split-of n (omega (arith, contour .all, four-sticks L (contour .sound) f (contour .stick)))
 
-  pub whole-from : RunFrom L n f 0 (record { edges = n; end = f })
+  pub whole-from : RunFrom L n f 0 (runTo n f)
   whole-from = record { some = omega (arith, whole-splits); ends = once-round contour; inside = omega arith }
 
   -- what code that works on a run of the contour is given
@@ -211,9 +210,9 @@ module _ {L : Layer} {f : Edge} {n : ℕ} (contour : HasSticks L f n) where
 
   module _ (tolerance : ℕ) (t₀ : List ℕ) where
     left-start : {u : Edge} → u ≡ stickAfter L (half n) f
-        → RunsLeft L tolerance f n t₀ (begun t₀) f 0 (record { edges = half n; end = u } ∷ record { edges = n - half n; end = f } ∷ [])
+        → RunsLeft L tolerance f n t₀ (begun t₀) f 0 (runTo (half n) u ∷ runTo (n - half n) f ∷ [])
     left-start {u} at-u =
-        let from = parts-from L n f u 0 (record { edges = n; end = f }) whole-from whole-splits at-u in
+        let from = parts-from L n f u 0 (runTo n f) whole-from whole-splits at-u in
         record {
           here = no-steps L f;
           runs = (from .0, (from .1, tt));
@@ -247,7 +246,7 @@ module _ {L : Layer} {f : Edge} {n : ℕ} (contour : HasSticks L f n) where
           }
 
       left-split : {u : Edge} → passes L (s .table) tolerance e (r .edges) ≡ false → u ≡ stickAfter L (half (r .edges)) e
-          → RunsLeft L tolerance f n t₀ (oneTried s) e p (firstPart r u ∷ secondPart r ∷ l)
+          → RunsLeft L tolerance f n t₀ (oneTried s) e p (runTo (half (r .edges)) u ∷ runTo (r .edges - half (r .edges)) (r .end) ∷ l)
       left-split {u} no-pass at-u =
           let m : ℕ = r .edges in
           let is = run-split L tolerance s e u m no-pass at-u in
@@ -307,17 +306,17 @@ module _ (L : Layer) (tolerance : ℕ) (f : Edge) (n : ℕ) (t₀ : List ℕ) wh
 
 module _ {L : Layer} {f : Edge} {n : ℕ} (contour : HasSticks L f n) where
   -- at the start the two runs of the contour wait
-  pub pending-start : {tolerance : ℕ} {t₀ : List ℕ} (runs : List Run) {u : Edge} {first second : Run} → length runs ≡ 22 → u ≡ stickAfter L (half n) f
-      → first ≡ record { edges = half n; end = u } → second ≡ record { edges = n - half n; end = f }
-      → Pending L tolerance f (length (contourOf L f)) t₀ t₀ (set (set runs 0 second) 1 first) 2 f 0 0 0
-  pending-start {tolerance} {t₀} runs {u} {first} {second} sized at-u is-first is-second =
-      let parts : first ∷ second ∷ [] ≡ record { edges = half n; end = u } ∷ record { edges = n - half n; end = f } ∷ [] =
-      λ i. is-first i ∷ is-second i ∷ [] in
-      subst (λ (k : ℕ). Pending L tolerance f k t₀ t₀ (set (set runs 0 second) 1 first) 2 f 0 0 0) (contour .all) (record {
+  pub pending-start : {tolerance : ℕ} {t₀ : List ℕ} (runs : List Run) {h : ℕ} {u : Edge} {first second : Run} → length runs ≡ 22
+      → h ≡ half n → u ≡ stickAfter L h f → first ≡ runTo h u → second ≡ runTo (n - h) f
+      → Pending L tolerance f n t₀ t₀ (set (set runs 0 second) 1 first) 2 f 0 0 0
+  pending-start {tolerance} {t₀} runs {h} {u} {first} {second} sized at-h at-u is-first is-second =
+      let parts : first ∷ second ∷ [] ≡ runTo (half n) u ∷ runTo (n - half n) f ∷ [] =
+      (λ i. is-first i ∷ is-second i ∷ []) ∙ ap (λ (k : ℕ). runTo k u ∷ runTo (n - k) f ∷ []) at-h in
+      record {
         same-length = refl;
         sized = length-set (set runs 0 second) 1 first ∙ length-set runs 0 second ∙ sized;
-        left = rw (waiting-two noRun runs 0 second first (omega (arith, sized)), parts) (left-start contour tolerance t₀ at-u);
-      })
+        left = rw (waiting-two noRun runs 0 second first (omega (arith, sized)), parts) (left-start contour tolerance t₀ (rw at-h at at-u));
+      }
 
   module _ {tolerance : ℕ} {t₀ table : List ℕ} {runs : List Run} {top : ℕ} {e : Edge} {p removed tried : ℕ}
       (now : Pending L tolerance f n t₀ table runs top e p removed tried) where
@@ -358,15 +357,17 @@ module _ {L : Layer} {f : Edge} {n : ℕ} (contour : HasSticks L f n) where
             let l = left-few contour tolerance t₀ (left-split contour tolerance t₀ here no-pass refl) in
             omega (arith, l, waiting-length noRun runs (top - 1))
 
-        pub pending-split : {u : Edge} {first second : Run} → u ≡ stickAfter L (half (taken runs top .edges)) e
-            → first ≡ firstPart (taken runs top) u → second ≡ secondPart (taken runs top)
+        pub pending-split : {h : ℕ} {u : Edge} {first second : Run} → h ≡ half (taken runs top .edges) → u ≡ stickAfter L h e
+            → first ≡ runTo h u → second ≡ runTo (taken runs top .edges - h) (taken runs top .end)
             → Pending L tolerance f n t₀ table (set (set runs (top - 1) second) (top - 1 + 1) first) (top - 1 + 2) e p removed (tried + 1)
-        pending-split {u} {first} {second} at-u is-first is-second =
-            let rest : List Run = waiting noRun runs (top - 1) in
-            let parts : first ∷ second ∷ rest ≡ firstPart (taken runs top) u ∷ secondPart (taken runs top) ∷ rest = λ i. is-first i ∷ is-second i ∷ rest in
+        pending-split {h} {u} {first} {second} at-h at-u is-first is-second =
+            let r : Run = taken runs top in
+            let others : List Run = waiting noRun runs (top - 1) in
+            let parts : first ∷ second ∷ others ≡ runTo (half (r .edges)) u ∷ runTo (r .edges - half (r .edges)) (r .end) ∷ others =
+            (λ i. is-first i ∷ is-second i ∷ others) ∙ ap (λ (k : ℕ). runTo k u ∷ runTo (r .edges - k) (r .end) ∷ others) at-h in
             record {
               same-length = now .same-length;
               sized = length-set (set runs (top - 1) second) (top - 1 + 1) first ∙ length-set runs (top - 1) second ∙ now .sized;
               left = rw (waiting-two noRun runs (top - 1) second first (omega (arith, room, now .sized)), parts)
-                  (left-split contour tolerance t₀ here no-pass at-u);
+                  (left-split contour tolerance t₀ here no-pass (rw at-h at at-u));
             }

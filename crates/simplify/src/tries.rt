@@ -11,7 +11,7 @@ ghost use mathlib.Core.Path.{_≡_};
 ghost use Rattle.grid.specs.Layer.{layerOf};
 ghost use Rattle.table.specs.Lent.{LentAt};
 ghost use Rattle.simplify.specs.Runs.{half, simplifyContour};
-ghost use Rattle.simplify.specs.Parts.{begun, reached, firstPart, secondPart, ContourLent};
+ghost use Rattle.simplify.specs.Parts.{begun, reached, runTo, ContourLent};
 
 // A contour of this many sticks or more is worth marks.
 const LONG_CONTOUR: usize = 4096;
@@ -38,42 +38,39 @@ fn half_of(n: usize) -> usize
     n / 2
 }
 
-// The first part of a run, which ends at the stick `end`.
-fn first_part(run: Run, end: Edge) -> Run
-    ensures { λ r. ⌜ r ≡ firstPart run end ⌝ }
+// The run of so many edges that ends at a stick. The stick is put together anew, as a copy of the whole would copy the bytes between its fields.
+fn run_to(edges: usize, end: Edge) -> Run
+    ensures { λ r. ⌜ r ≡ runTo edges end ⌝ }
 {
-    let edges = half_of(run.edges);
+    let end = Edge {
+        vertical: end.vertical,
+        column: end.column,
+        row: end.row,
+    };
     Run { edges, end }
 }
 
-fn second_part(run: Run) -> Run
-    ensures { λ r. ⌜ r ≡ secondPart run ⌝ }
-{
-    let edges = run.edges - half_of(run.edges);
-    let end = run.end;
-    Run { edges, end }
-}
-
-// Tries the two runs of a whole contour, and the parts of those that do not pass. The first `top` of `runs` wait, and the last of them is taken.
-// It starts at the stick `at`, which is `place` steps on from where the contour starts.
+// Tries the two runs of the contour of n sticks that starts at `first`, and the parts of those that do not pass. The first `top` of `runs` wait,
+// and the last of them is taken. It starts at the stick `at`, which is `place` steps on from `first`.
 fn try_runs(
     size: Size,
     bitmap: &[u8],
     table: &mut [u16],
     t: u8,
     marks: &[u32],
-    whole: Run,
+    first: Edge,
+    n: usize,
 ) -> RunCounts
-    requires { ⌜ ContourLent (layerOf size (now bitmap)) (now table) (whole .end) (whole .edges) (now marks) ⌝ }
-    ensures { λ r. ⌜ reached r (now (table .exit)) ≡ simplifyContour (layerOf size (now (bitmap .entry))) t (begun (now (table .entry))) (whole .end) ⌝ }
+    requires { ⌜ ContourLent (layerOf size (now bitmap)) (now table) first n (now marks) ⌝ }
+    ensures { λ r. ⌜ reached r (now (table .exit)) ≡ simplifyContour (layerOf size (now (bitmap .entry))) t (begun (now (table .entry))) first ⌝ }
 {
-    let mut at = whole.end;
-    let mut place: usize = 0;
-    let back = second_part(whole);
-    let mut runs: [Run; ROOM] = [back; ROOM];
-    let middle = stick_at(size, bitmap, marks, at, place, half_of(whole.edges));
-    runs[1] = first_part(whole, middle);
+    let h = half_of(n);
+    let second = run_to(n - h, first);
+    let mut runs: [Run; ROOM] = [second; ROOM];
+    runs[1] = run_to(h, stick_at(size, bitmap, marks, first, 0, h));
     let mut top: usize = 2;
+    let mut at = first;
+    let mut place: usize = 0;
     let mut removed: usize = 0;
     let mut tried: usize = 0;
     while 0 < top {
@@ -86,9 +83,9 @@ fn try_runs(
             place += run.edges;
             at = run.end;
         } else {
-            let middle = stick_at(size, bitmap, marks, at, place, half_of(run.edges));
-            runs[top] = second_part(run);
-            runs[top + 1] = first_part(run, middle);
+            let h = half_of(run.edges);
+            runs[top] = run_to(run.edges - h, run.end);
+            runs[top + 1] = run_to(h, stick_at(size, bitmap, marks, at, place, h));
             top += 2;
         }
     }
@@ -106,13 +103,12 @@ pub fn simplify_contour(
     requires { ⌜ LentAt (layerOf size (now bitmap)) (now table) first ⌝ }
     ensures { λ r. ⌜ reached r (now (table .exit)) ≡ simplifyContour (layerOf size (now (bitmap .entry))) t (begun (now (table .entry))) first ⌝ }
 {
-    let edges = contour_length(size, bitmap, first);
-    let whole = Run { edges, end: first };
-    if LONG_CONTOUR <= edges {
+    let n = contour_length(size, bitmap, first);
+    if LONG_CONTOUR <= n {
         let mut marks: [u32; PLACES] = [0; PLACES];
-        put_marks(size, bitmap, first, edges, &mut marks);
-        return try_runs(size, bitmap, table, t, &marks, whole);
+        put_marks(size, bitmap, first, n, &mut marks);
+        return try_runs(size, bitmap, table, t, &marks, first, n);
     }
     let none: [u32; 1] = [0; 1];
-    try_runs(size, bitmap, table, t, &none[1..], whole)
+    try_runs(size, bitmap, table, t, &none[1..], first, n)
 }

@@ -1,58 +1,48 @@
 -- `try_runs` meets its contract. The invariant: trying the runs that wait gives what the contour is to give, and as many wait as the definition
 -- says. The measure is how many runs are still to be tried. `passed` and `failed` are the two answers of the test.
-use mathlib.Core.Path.{_≡_, refl, sym, _∙_, ap}
+use mathlib.Core.Path.{_≡_, refl, sym, _∙_}
 use mathlib.Core.Bool.{true, false}
 use Prim.Native.Nat.{_+_, _-_, _≤_, _<_}
 use native.Mathlib.Omega.{arith}
-use lib.ListN.{length, replicate}
+use lib.ListN.{replicate}
 use borrow.Author.Needs.{needs}
 use Rattle.grid.specs.Layer.{layerOf}
-use Rattle.contour.specs.Contours.{contourOf}
-use Rattle.run.specs.Runs.{passes, HasSticks, RunLent}
+use Rattle.run.specs.Runs.{passes, RunLent}
 use Rattle.run.proofs.Steps.{no-steps, lent-start}
-use Rattle.simplify.specs.Runs.{half, simplifyContour}
+use Rattle.simplify.specs.Runs.{simplifyContour}
 use Rattle.simplify.specs.Parts.{begun}
-use Rattle.simplify.specs.declared.tries.Run.{Run}
 use Rattle.simplify.proofs.Pending.{taken, Pending, whole-from, run-lent, middle-along, pending-start, counts-small, few, taken-from, place-small, room, pending-passed, pending-split, pending-end}
 use Rattle.simplify.proofs.tries.try_runs.Statement.{statement}
 use Rattle.simplify.proofs.tries.try_runs.Tie as tie
 
 abbrev Inv-loop : tie.InvT-loop
-Inv-loop size bitmap table₀ t marks at₀ place₀ runs₀ top₀ removed₀ tried₀ table at place runs top removed tried =
-    let L = layerOf size bitmap in
-    Pending L t at₀ (length (contourOf L at₀)) table₀ table runs top at place removed tried
+Inv-loop size bitmap table₀ t marks n h runs₀ top₀ at₀ place₀ removed₀ tried₀ table runs top at place removed tried =
+    Pending (layerOf size bitmap) t at₀ n table₀ table runs top at place removed tried
 
 abbrev μ-loop : tie.MeasureT-loop
-μ-loop size bitmap table₀ t marks at₀ place₀ runs₀ top₀ removed₀ tried₀ table at place runs top removed tried =
+μ-loop size bitmap table₀ t marks n h runs₀ top₀ at₀ place₀ removed₀ tried₀ table runs top at place removed tried =
     simplifyContour (layerOf size bitmap) t (begun table₀) at₀ .tried - tried
 
 -- Before the loop
 
 stick-at-requires : tie.Need-stick-at-requires Inv-loop μ-loop
 stick-at-requires c κs =
-    let given = c .before .before .before .before .before .before .pre in
-    middle-along (given .contour) (no-steps _ _) (whole-from (given .contour)) (c .half-of .ensures) (given .marked)
+    let halving = c .before in
+    let given = halving .before .before .before .before .pre in
+    middle-along (given .contour) (no-steps _ _) (whole-from (given .contour)) (halving .half-of .ensures) (given .marked)
 
 loop-holds : tie.Need-loop-holds Inv-loop μ-loop
 loop-holds c =
-    let finding = c .before in
-    let pushing = finding .before .before in
-    pending-start (pushing .before .before .before .before .before .pre .contour) (replicate 22 (pushing .second-part .result)) refl
-    (rw (finding .before .half-of .ensures) at (finding .stick-at .ensures)) (c .first-part .ensures) (pushing .second-part .ensures)
+    let second = c .before .before in
+    let halving = second .before in
+    pending-start (halving .before .before .before .before .pre .contour) (replicate 22 (second .run-to .result)) refl
+    (halving .half-of .ensures) (c .before .stick-at .ensures) (c .run-to2 .ensures) (second .run-to .ensures)
 
 -- Where a run is taken
 
 -- the function's start, from where the loop stands
 abbrev start-of : tie.At-loop Inv-loop μ-loop → tie.Start Inv-loop μ-loop
-start-of at-loop = at-loop .before .before .before .before .before .before .before .before .before
-
--- the contour that the runs are of
-contour : (c : tie.At-loop Inv-loop μ-loop) → let a = start-of c .args in
-    let L = layerOf (a .size) (a .bitmap .now) in
-    HasSticks L (a .whole .end) (length (contourOf L (a .whole .end)))
-contour c =
-    let given = start-of c .pre .contour in
-    record { sound = given .sound; stick = given .stick; all = refl }
+start-of at-loop = at-loop .before .before .before .before .before .before .before .before
 
 -- what the code that works on the run is given
 lent : (c : tie.In-loop Inv-loop μ-loop) → let a = start-of (c .before) .args in
@@ -62,11 +52,11 @@ lent : (c : tie.In-loop Inv-loop μ-loop) → let a = start-of (c .before) .args
 lent c =
     let at-loop = c .before in
     let inv = at-loop .loop .inv in
-    run-lent (contour at-loop) (inv .left .here) (taken-from (contour at-loop) inv (c .loop-test .taken)) (inv .same-length ∙ start-of at-loop .pre .exact)
+    run-lent (start-of at-loop .pre .contour) (inv .left .here) (taken-from (start-of at-loop .pre .contour) inv (c .loop-test .taken)) (inv .same-length ∙ start-of at-loop .pre .exact)
 
 -- it stands in its place
 stored : (c : tie.In-loop Inv-loop μ-loop) → c .before .loop .top - 1 < 22
-stored c = omega (arith, few (contour (c .before)) (c .before .loop .inv) (c .loop-test .taken))
+stored c = omega (arith, few (start-of (c .before) .pre .contour) (c .before .loop .inv) (c .loop-test .taken))
 
 -- where it was taken, from where it is tested
 abbrev taking : tie.After-passes-run Inv-loop μ-loop → tie.In-loop Inv-loop μ-loop
@@ -87,9 +77,9 @@ small : (c : tie.Then1 Inv-loop μ-loop) → let l = taking (c .before) .before 
 small c =
     let here = taking (c .before) in
     let inv = here .before .loop .inv in
-    let place = place-small (contour (here .before)) inv (here .loop-test .taken) in (
-      taken-from (contour (here .before)) inv (here .loop-test .taken) .some,
-      omega (arith, counts-small (contour (here .before)) inv, place),
+    let place = place-small (start-of (here .before) .pre .contour) inv (here .loop-test .taken) in (
+      taken-from (start-of (here .before) .pre .contour) inv (here .loop-test .taken) .some,
+      omega (arith, counts-small (start-of (here .before) .pre .contour) inv, place),
       place,
     )
 
@@ -98,12 +88,12 @@ loop-again c =
     let removing = c .before .before .before .before .before in
     let test = removing .before .before in
     let here = taking (test .before) in
-    pending-passed (contour (here .before)) (here .before .loop .inv) (here .loop-test .taken) (passed test) (removing .remove-inner .ensures)
+    pending-passed (start-of (here .before) .pre .contour) (here .before .loop .inv) (here .loop-test .taken) (passed test) (removing .remove-inner .ensures)
 
 loop-less : tie.Need-loop-less Inv-loop μ-loop
 loop-less c =
     let here = taking (c .before .before .before .before .before .before .before .before) in
-    omega (arith, counts-small (contour (here .before)) (loop-again c) .2)
+    omega (arith, counts-small (start-of (here .before) .pre .contour) (loop-again c) .2)
 
 -- The run is split
 
@@ -117,41 +107,41 @@ failed c = sym (c .before .passes-run .ensures) ∙ c .if1 .left
 space : (c : tie.Else1 Inv-loop μ-loop) → taking (c .before) .before .loop .top - 1 + 2 ≤ 22
 space c =
     let here = taking (c .before) in
-    room (contour (here .before)) (here .before .loop .inv) (here .loop-test .taken) (failed c)
+    room (start-of (here .before) .pre .contour) (here .before .loop .inv) (here .loop-test .taken) (failed c)
 
 stick-at-requires-2 : tie.Need-stick-at-requires-2 Inv-loop μ-loop
 stick-at-requires-2 c κs =
-    let here = taking (c .before .before) in
-    let at-loop = here .before in
-    let inv = at-loop .loop .inv in
-    middle-along (contour at-loop) (inv .left .here) (taken-from (contour at-loop) inv (here .loop-test .taken)) (c .half-of2 .ensures)
-    (start-of at-loop .pre .marked)
+    let halving = c .before .before in
+    let here = taking (halving .before .before) in
+    let given = start-of (here .before) .pre in
+    let inv = here .before .loop .inv in
+    middle-along (given .contour) (inv .left .here) (taken-from (given .contour) inv (here .loop-test .taken)) (halving .half-of2 .ensures) (given .marked)
 
 loop-again-2 : tie.Need-loop-again-2 Inv-loop μ-loop
 loop-again-2 c =
-    let finding = c .before .before in
-    let test = finding .before .before in
-    let here = taking (test .before) in
-    pending-split (contour (here .before)) (here .before .loop .inv) (here .loop-test .taken) (failed test)
-    (rw (finding .before .half-of2 .ensures) at (finding .stick-at2 .ensures)) (c .first-part2 .ensures) (c .before .second-part2 .ensures)
+    let finding = c .before in
+    let halving = finding .before .before .before in
+    let here = taking (halving .before .before) in
+    pending-split (start-of (here .before) .pre .contour) (here .before .loop .inv) (here .loop-test .taken) (failed (halving .before))
+    (halving .half-of2 .ensures) (finding .stick-at2 .ensures) (c .run-to4 .ensures) (finding .before .run-to3 .ensures)
 
 loop-less-2 : tie.Need-loop-less-2 Inv-loop μ-loop
 loop-less-2 c =
-    let here = taking (c .before .before .before .before .before) in
-    omega (arith, counts-small (contour (here .before)) (loop-again-2 c) .2)
+    let here = taking (c .before .before .before .before .before .before) in
+    omega (arith, counts-small (start-of (here .before) .pre .contour) (loop-again-2 c) .2)
 
 pub try-runs-spec : {M : Type 1} → statement M
 try-runs-spec =
     tie.close
-    (tie.spec Inv-loop μ-loop (λ c κs. search needs) (λ c κs. search needs) stick-at-requires (λ c κs. search needs) (λ c. search needs) loop-holds
-    (λ c. omega (arith, c .loop-test .taken)) (λ c. omega (arith, stored c)) stored
-    (λ c. omega (arith, counts-small (contour (c .before .before)) (c .before .before .loop .inv)))
+    (tie.spec Inv-loop μ-loop (λ c κs. search needs) (λ c. omega (arith, c .half-of .ensures)) (λ c κs. search needs) stick-at-requires
+    (λ c κs. search needs) (λ c. search needs) loop-holds (λ c. omega (arith, c .loop-test .taken)) (λ c. omega (arith, stored c)) stored
+    (λ c. omega (arith, counts-small (start-of (c .before .before) .pre .contour) (c .before .before .loop .inv)))
     (λ c κs. lent (c .before .before)) (λ c κs. lent-start (lent (taking (c .before .before))))
     (λ c. small (c .before .before .before .before .before) .0) (λ c. omega (arith, small (c .before .before .before .before .before)))
-    (λ c. omega (arith, small (c .before .before .before .before .before .before)))
-    loop-less loop-again (λ c κs. search needs) stick-at-requires-2 (λ c κs. search needs)
-    (λ c. omega (arith, space (c .before .before .before))) (λ c. omega (arith, space (c .before .before .before))) (λ c κs. search needs)
-    (λ c. omega (arith, space (c .before .before .before .before))) (λ c. omega (arith, space (c .before .before .before .before)))
-    (λ c. omega (arith, space (c .before .before .before .before))) (λ c. omega (arith, space (c .before .before .before .before))) loop-less-2 loop-again-2
-    (λ c. c .before .loop .inv .same-length)
-    (λ c. pending-end (contour (c .before)) (c .before .loop .inv) (omega (arith, c .loop-test .left))))
+    (λ c. omega (arith, small (c .before .before .before .before .before .before))) loop-less loop-again (λ c κs. search needs)
+    (λ c. omega (arith, c .before .half-of2 .ensures)) (λ c κs. search needs) (λ c. omega (arith, space (c .before .before .before)))
+    (λ c. omega (arith, space (c .before .before .before))) stick-at-requires-2 (λ c κs. search needs)
+    (λ c. omega (arith, space (c .before .before .before .before .before))) (λ c. omega (arith, space (c .before .before .before .before .before)))
+    (λ c. omega (arith, space (c .before .before .before .before .before))) (λ c. omega (arith, space (c .before .before .before .before .before)))
+    loop-less-2 loop-again-2 (λ c. c .before .loop .inv .same-length)
+    (λ c. pending-end (start-of (c .before) .pre .contour) (c .before .loop .inv) (omega (arith, c .loop-test .left))))
