@@ -1,4 +1,5 @@
--- What the promise of Simplify says (Runs, Call), the same over points (Meaning), and what the contracts of its parts cite besides (Parts).
+-- What the promise of Simplify says (Runs, Call), the same over points (Meaning), how many runs wait meanwhile (Waiting), and what the contracts
+-- of its parts cite besides (Parts).
 pub mod Runs
 pub mod Parts
 pub mod Waiting

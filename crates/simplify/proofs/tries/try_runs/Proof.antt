@@ -4,14 +4,14 @@ use mathlib.Core.Path.{_≡_, refl, sym, _∙_}
 use mathlib.Core.Bool.{true, false}
 use Prim.Native.Nat.{_+_, _-_, _≤_, _<_}
 use native.Mathlib.Omega.{arith}
-use lib.ListN.{replicate}
 use borrow.Author.Needs.{needs}
 use Rattle.grid.specs.Layer.{layerOf}
 use Rattle.run.specs.Runs.{passes, RunLent}
 use Rattle.run.proofs.Steps.{no-steps, lent-start}
 use Rattle.simplify.specs.Runs.{simplifyContour}
 use Rattle.simplify.specs.Parts.{begun}
-use Rattle.simplify.proofs.Pending.{taken, Pending, whole-from, run-lent, middle-along, pending-start, counts-small, few, taken-from, place-small, room, pending-passed, pending-split, pending-end}
+use Rattle.simplify.proofs.RunsLeft.{whole-from, run-lent, middle-along}
+use Rattle.simplify.proofs.Pending.{taken, Pending, pending-start, counts-small, few, taken-from, place-small, room, pending-passed, pending-split, pending-end}
 use Rattle.simplify.proofs.tries.try_runs.Statement.{statement}
 use Rattle.simplify.proofs.tries.try_runs.Tie as tie
 
@@ -35,8 +35,8 @@ loop-holds : tie.Need-loop-holds Inv-loop μ-loop
 loop-holds c =
     let second = c .before .before in
     let halving = second .before in
-    pending-start (halving .before .before .before .before .pre .contour) (replicate 22 (second .run-to .result)) refl
-    (halving .half-of .ensures) (c .before .stick-at .ensures) (c .run-to2 .ensures) (second .run-to .ensures)
+    pending-start (halving .before .before .before .before .pre .contour) refl (halving .half-of .ensures) (c .before .stick-at .ensures)
+    (c .run-to2 .ensures) (second .run-to .ensures)
 
 -- Where a run is taken
 
