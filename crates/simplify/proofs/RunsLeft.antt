@@ -1,5 +1,6 @@
--- What is left to try of a contour, as a list of runs that follow each other. Trying them gives what the recursion gives, and as many wait as it
--- says (specs/Waiting.antt): at the start, after a run that passes, and after one that is split. So few wait.
+-- What is left to try of a contour, as a list of runs that follow each other: at the start, after a run that passes, and after one that is split.
+-- Trying them gives what the recursion gives, and the numbers of `waitsOf` that are still to come (specs/Waiting.antt) are theirs; the next of
+-- them is how many there are.
 use mathlib.Core.Path.{_≡_, refl, sym, _∙_, ap}
 use mathlib.Core.Bool.{true, false}
 use mathlib.Core.List.{List, [], _∷_, _++_, foldl, append-nil, append-assoc}
@@ -7,7 +8,6 @@ use Prim.Native.Nat.{ℕ, suc, _+_, _-_, _≤_}
 use native.Mathlib.Omega.{arith}
 use lib.ListN.{length, getD, drop}
 use lib.Seq.{getD-drop, drop-drop}
-use Rattle.arith.proofs.Booleans.{both-sides}
 use Rattle.grid.specs.Layer.{Layer}
 use Rattle.grid.specs.Edges.{edgeCount}
 use Rattle.grid.specs.declared.edge.Edge.{Edge}
@@ -17,12 +17,12 @@ use Rattle.run.specs.Runs.{stickAfter, between, passes, HasSticks, RunLent}
 use Rattle.run.specs.Marks.{MarkedAlong, Along}
 use Rattle.run.proofs.Steps.{no-steps, steps-on, steps-rest, stick-on, once-round, most-sticks}
 use Rattle.simplify.specs.Runs.{Progress, half, oneTried, tryRun, simplifyContour}
-use Rattle.simplify.specs.Parts.{begun, runTo}
+use Rattle.simplify.specs.Parts.{begun, runTo, firstPart, secondPart}
 use Rattle.simplify.specs.Waiting.{waitsOfRun, waitsOf}
 use Rattle.simplify.specs.declared.tries.Run.{Run}
 use Rattle.simplify.proofs.Trying.{Split, split, split-of, inner-is, try-passes, try-splits, try-deep, try-bounds, contour-runs}
 use Rattle.simplify.proofs.Layers.{contour-bounds}
-use Rattle.simplify.proofs.Waiting.{waits-passes, waits-splits, waits-deep, waits-contour, few-wait}
+use Rattle.simplify.proofs.Waiting.{waits-first, waits-passes, waits-splits, waits-deep, waits-contour, few-wait}
 
 -- Runs tried one after the other
 
@@ -50,25 +50,26 @@ module _ (L : Layer) (tolerance : ℕ) where
       let m = all-more (tryOne s e (r .edges)) (r .end) l in
       (omega (arith, w .removed-least, m .0), omega (arith, w .tried-least, m .1))
 
-  -- the parts of a run of m edges from e, each at its own depth, and both at one that is enough for them
-  module _ (depth : ℕ) (s : Progress) (e u : Edge) {m : ℕ} (parts : Split m) (enough : m ≤ suc depth) (at-u : u ≡ stickAfter L (half m) e) where
+  -- the parts of a run of m edges from e, each tried at the depth of its own edges, as both tried at a depth that is enough
+  module _ (depth : ℕ) (s : Progress) (e : Edge) {m : ℕ} (parts : Split m) (enough : m ≤ suc depth) where
     first-deep : tryOne s e (half m) ≡ tryRun L tolerance depth s e (half m)
     first-deep = try-deep L tolerance (half m) depth s e (half m) (parts .first-some) (omega arith) (omega (arith, parts)) (omega (arith, parts))
 
-    parts-deep : tryOne (tryOne s e (half m)) u (m - half m)
+    parts-deep : tryOne (tryOne s e (half m)) (stickAfter L (half m) e) (m - half m)
         ≡ tryRun L tolerance depth (tryRun L tolerance depth s e (half m)) (stickAfter L (half m) e) (m - half m)
     parts-deep =
-        (λ i. tryOne (first-deep i) (at-u i) (m - half m))
+        (λ i. tryOne (first-deep i) (stickAfter L (half m) e) (m - half m))
         ∙ try-deep L tolerance (m - half m) depth (tryRun L tolerance depth s e (half m)) (stickAfter L (half m) e) (m - half m)
         (parts .second-some) (omega arith) (omega (arith, parts)) (omega (arith, parts))
 
-    parts-wait : (others : ℕ) → waitsOfOne s e (half m) (suc others) ++ waitsOfOne (tryOne s e (half m)) u (m - half m) others
+    parts-wait : (others : ℕ)
+        → waitsOfOne s e (half m) (suc others) ++ waitsOfOne (tryOne s e (half m)) (stickAfter L (half m) e) (m - half m) others
         ≡ waitsOfRun L tolerance depth s e (half m) (suc others)
         ++ waitsOfRun L tolerance depth (tryRun L tolerance depth s e (half m)) (stickAfter L (half m) e) (m - half m) others
     parts-wait others =
         let first = waits-deep L tolerance (half m) depth s e (half m) (suc others) (parts .first-some) (omega arith) (omega (arith, parts))
         (omega (arith, parts)) in
-        let second = (λ i. waitsOfOne (first-deep i) (at-u i) (m - half m) others)
+        let second = (λ i. waitsOfOne (first-deep i) (stickAfter L (half m) e) (m - half m) others)
         ∙ waits-deep L tolerance (m - half m) depth (tryRun L tolerance depth s e (half m)) (stickAfter L (half m) e) (m - half m) others
         (parts .second-some) (omega arith) (omega (arith, parts)) (omega (arith, parts)) in
         λ i. first i ++ second i
@@ -88,28 +89,28 @@ module _ (L : Layer) (tolerance : ℕ) where
         ap (λ (d : ℕ). waitsOfRun L tolerance d s e m others) deep ∙ waits-passes L tolerance (m - 1) s e m others pass
 
   -- and one that is split
-  module _ (s : Progress) (e u : Edge) (m : ℕ) (no-pass : passes L (s .table) tolerance e m ≡ false) (at-u : u ≡ stickAfter L (half m) e) where
+  module _ (s : Progress) (e : Edge) (m : ℕ) (no-pass : passes L (s .table) tolerance e m ≡ false) where
     parts-of : Split m
     parts-of = split L (s .table) tolerance e m no-pass
 
     deeper : m ≡ suc (m - 1)
     deeper = omega (arith, parts-of .more)
 
-    run-split : tryOne s e m ≡ tryOne (tryOne (oneTried s) e (half m)) u (m - half m)
+    run-split : tryOne s e m ≡ tryOne (tryOne (oneTried s) e (half m)) (stickAfter L (half m) e) (m - half m)
     run-split =
         ap (λ (d : ℕ). tryRun L tolerance d s e m) deeper ∙ try-splits L tolerance (m - 1) s e m no-pass
-        ∙ sym (parts-deep (m - 1) (oneTried s) e u parts-of (omega (arith, deeper)) at-u)
+        ∙ sym (parts-deep (m - 1) (oneTried s) e parts-of (omega (arith, deeper)))
 
-    split-waits : (others : ℕ) → waitsOfOne s e m others
-        ≡ suc others ∷ (waitsOfOne (oneTried s) e (half m) (suc others) ++ waitsOfOne (tryOne (oneTried s) e (half m)) u (m - half m) others)
+    split-waits : (others : ℕ) → waitsOfOne s e m others ≡ suc others ∷ (waitsOfOne (oneTried s) e (half m) (suc others)
+        ++ waitsOfOne (tryOne (oneTried s) e (half m)) (stickAfter L (half m) e) (m - half m) others)
     split-waits others =
         ap (λ (d : ℕ). waitsOfRun L tolerance d s e m others) deeper ∙ waits-splits L tolerance (m - 1) s e m others no-pass
-        ∙ ap (λ (l : List ℕ). suc others ∷ l) (sym (parts-wait (m - 1) (oneTried s) e u parts-of (omega (arith, deeper)) at-u others))
+        ∙ ap (λ (l : List ℕ). suc others ∷ l) (sym (parts-wait (m - 1) (oneTried s) e parts-of (omega (arith, deeper)) others))
 
 -- What is left of a contour
 
 module _ (L : Layer) (n : ℕ) where
-  -- a run of a contour of n sticks, from e, which is p steps on
+  -- a run of a contour of n sticks, from e, which is p steps on from the contour's first stick
   pub record RunFrom (e : Edge) (p : ℕ) (r : Run) : Type 0 where
     pub some : 1 ≤ r .edges
     pub ends : r .end ≡ stickAfter L (r .edges) e
@@ -119,30 +120,29 @@ module _ (L : Layer) (n : ℕ) where
   RunsFrom e p [] = Unit {0}
   RunsFrom e p (r ∷ l) = RunFrom e p r × RunsFrom (r .end) (p + r .edges) l
 
-  parts-from : (e u : Edge) (p : ℕ) (r : Run) → RunFrom e p r → Split (r .edges) → u ≡ stickAfter L (half (r .edges)) e
-      → RunFrom e p (runTo (half (r .edges)) u) × RunFrom u (p + half (r .edges)) (runTo (r .edges - half (r .edges)) (r .end))
-  parts-from e u p r from parts at-u = (
-    record { some = parts .first-some; ends = at-u; inside = omega (arith, from .inside, parts) },
+  parts-from : (e : Edge) (p : ℕ) (r : Run) → RunFrom e p r → Split (r .edges)
+      → RunFrom e p (firstPart L e r) × RunFrom (stickAfter L (half (r .edges)) e) (p + half (r .edges)) (secondPart r)
+  parts-from e p r from parts = (
+    record { some = parts .first-some; ends = refl; inside = omega (arith, from .inside, parts) },
     record {
       some = parts .second-some;
-      ends = steps-rest L e (half (r .edges)) (r .edges) (omega (arith, parts)) at-u (from .ends);
+      ends = steps-rest L e (half (r .edges)) (r .edges) (omega (arith, parts)) refl (from .ends);
       inside = omega (arith, from .inside, parts);
     },
   )
 
 module _ (L : Layer) (tolerance : ℕ) (f : Edge) (n : ℕ) (t₀ : List ℕ) where
-  -- after s the runs l wait, from e on, which is p steps on from f: as many as the recursion says, and trying them gives what it gives
+  -- After s the runs l wait, from e on, which is p steps on from f. `numbers`: past those of the runs tried so far, the numbers of `waitsOf` are those
+  -- of l. `gives`: trying l ends where `simplifyContour` does.
   pub record RunsLeft (s : Progress) (e : Edge) (p : ℕ) (l : List Run) : Type 0 where
     pub here : e ≡ stickAfter L p f
     pub runs : RunsFrom L n e p l
     pub numbers : drop (s .tried) (waitsOf L tolerance (begun t₀) f) ≡ waitsOfAll L tolerance s e l
     pub gives : tryAll L tolerance s e l ≡ simplifyContour L tolerance (begun t₀) f
 
--- a list of which the first numbers are done: the next one, and what is left after it
-next-number : (k : ℕ) (l : List ℕ) {x : ℕ} {m : List ℕ} → drop k l ≡ x ∷ m → (getD l k 0 ≡ x) × (drop (k + 1) l ≡ m)
-next-number k l e =
-    let same : k + 0 ≡ k = omega arith in
-    (ap (λ (j : ℕ). getD l j 0) (sym same) ∙ sym (getD-drop k l 0 0) ∙ ap (λ (r : List ℕ). getD r 0 0) e, sym (drop-drop 1 k l) ∙ ap (drop 1) e)
+-- what is left of a list after one number more
+one-more : (k : ℕ) (l : List ℕ) {x : ℕ} {m : List ℕ} → drop k l ≡ x ∷ m → drop (k + 1) l ≡ m
+one-more k l e = sym (drop-drop 1 k l) ∙ ap (drop 1) e
 
 module _ {L : Layer} {f : Edge} {n : ℕ} (contour : HasSticks L f n) where
   -- the whole contour, as a run that is cut in two
@@ -170,19 +170,18 @@ module _ {L : Layer} {f : Edge} {n : ℕ} (contour : HasSticks L f n) where
         }
 
   module _ (tolerance : ℕ) (t₀ : List ℕ) where
-    pub left-start : {u : Edge} → u ≡ stickAfter L (half n) f
-        → RunsLeft L tolerance f n t₀ (begun t₀) f 0 (runTo (half n) u ∷ runTo (n - half n) f ∷ [])
-    left-start {u} at-u =
-        let from = parts-from L n f u 0 (runTo n f) whole-from whole-splits at-u in
+    pub left-start : RunsLeft L tolerance f n t₀ (begun t₀) f 0 (firstPart L f (runTo n f) ∷ secondPart (runTo n f) ∷ [])
+    left-start =
+        let from = parts-from L n f 0 (runTo n f) whole-from whole-splits in
         record {
           here = no-steps L f;
           runs = (from .0, (from .1, tt));
           numbers = waits-contour L tolerance (begun t₀) f
               ∙ ap (λ (k : ℕ). waitsOfRun L tolerance k (begun t₀) f (half k) 1
               ++ waitsOfRun L tolerance k (tryRun L tolerance k (begun t₀) f (half k)) (stickAfter L (half k) f) (k - half k) 0) (sym (contour .all))
-              ∙ sym (parts-wait L tolerance n (begun t₀) f u whole-splits (omega arith) at-u 0)
+              ∙ sym (parts-wait L tolerance n (begun t₀) f whole-splits (omega arith) 0)
               ∙ ap (λ (l : List ℕ). waitsOfOne L tolerance (begun t₀) f (half n) 1 ++ l) (sym (append-nil _));
-          gives = parts-deep L tolerance n (begun t₀) f u whole-splits (omega arith) at-u
+          gives = parts-deep L tolerance n (begun t₀) f whole-splits (omega arith)
               ∙ ap (λ (k : ℕ). tryRun L tolerance k (tryRun L tolerance k (begun t₀) f (half k)) (stickAfter L (half k) f) (k - half k)) (contour .all)
               ∙ sym (contour-runs L tolerance (begun t₀) f);
         }
@@ -201,45 +200,50 @@ module _ {L : Layer} {f : Edge} {n : ℕ} (contour : HasSticks L f n) where
           record {
             here = steps-on L f p (r .edges) (now .here) (from .ends);
             runs = now .runs .1;
-            numbers = next-number (s .tried) (waitsOf L tolerance (begun t₀) f)
-                (now .numbers ∙ (λ i. counts i ++ waitsOfAll L tolerance (is i) (r .end) l)) .1;
+            numbers = one-more (s .tried) (waitsOf L tolerance (begun t₀) f)
+                (now .numbers ∙ (λ i. counts i ++ waitsOfAll L tolerance (is i) (r .end) l));
             gives = ap (λ (x : Progress). tryAll L tolerance x (r .end) l) (sym is) ∙ now .gives;
           }
 
-      pub left-split : {u : Edge} → passes L (s .table) tolerance e (r .edges) ≡ false → u ≡ stickAfter L (half (r .edges)) e
-          → RunsLeft L tolerance f n t₀ (oneTried s) e p (runTo (half (r .edges)) u ∷ runTo (r .edges - half (r .edges)) (r .end) ∷ l)
-      left-split {u} no-pass at-u =
+      pub left-split : passes L (s .table) tolerance e (r .edges) ≡ false
+          → RunsLeft L tolerance f n t₀ (oneTried s) e p (firstPart L e r ∷ secondPart r ∷ l)
+      left-split no-pass =
           let m : ℕ = r .edges in
-          let is = run-split L tolerance s e u m no-pass at-u in
-          let counts = split-waits L tolerance s e u m no-pass at-u (length l) in
-          let parts = parts-of L tolerance s e u m no-pass at-u in
-          let from = parts-from L n e u p r (now .runs .0) parts at-u in
+          let middle : Edge = stickAfter L (half m) e in
+          let is = run-split L tolerance s e m no-pass in
+          let counts = split-waits L tolerance s e m no-pass (length l) in
+          let parts = parts-of L tolerance s e m no-pass in
+          let from = parts-from L n e p r (now .runs .0) parts in
           let sum : p + m ≡ p + half m + (m - half m) = omega (arith, parts) in
           let first : Progress = tryOne L tolerance (oneTried s) e (half m) in
           let in-turn = append-assoc (waitsOfOne L tolerance (oneTried s) e (half m) (suc (length l)))
-          (waitsOfOne L tolerance first u (m - half m) (length l)) (waitsOfAll L tolerance (tryOne L tolerance first u (m - half m)) (r .end) l) in
+          (waitsOfOne L tolerance first middle (m - half m) (length l))
+          (waitsOfAll L tolerance (tryOne L tolerance first middle (m - half m)) (r .end) l) in
           record {
             here = now .here;
             runs = (from .0, (from .1, rw sum at (now .runs .1)));
-            numbers = next-number (s .tried) (waitsOf L tolerance (begun t₀) f)
-                (now .numbers ∙ (λ i. counts i ++ waitsOfAll L tolerance (is i) (r .end) l) ∙ ap (λ (w : List ℕ). suc (length l) ∷ w) in-turn) .1;
+            numbers = one-more (s .tried) (waitsOf L tolerance (begun t₀) f)
+                (now .numbers ∙ (λ i. counts i ++ waitsOfAll L tolerance (is i) (r .end) l) ∙ ap (λ (w : List ℕ). suc (length l) ∷ w) in-turn);
             gives = ap (λ (x : Progress). tryAll L tolerance x (r .end) l) (sym is) ∙ now .gives;
           }
 
-      -- so few wait
-      pub left-few : suc (length l) ≤ 22
-      left-few =
+      -- the next number of `waitsOf` is how many wait,
+      pub left-number : getD (waitsOf L tolerance (begun t₀) f) (s .tried) 0 ≡ suc (length l)
+      left-number =
           let m : ℕ = r .edges in
-          let others = waitsOfAll L tolerance (tryOne L tolerance s e m) (r .end) l in
-          let next : (w : List ℕ) × (waitsOfOne L tolerance s e m (length l) ≡ suc (length l) ∷ w) =
-          both-sides (passes L (s .table) tolerance e m)
-          (λ y. ([], passed-waits L tolerance s e m (now .runs .0 .some) y (length l)))
-          (λ f. (_, split-waits L tolerance s e (stickAfter L (half m) e) m f refl (length l))) in
-          let number = next-number (s .tried) (waitsOf L tolerance (begun t₀) f) (now .numbers ∙ ap (λ (w : List ℕ). w ++ others) (next .1)) in
-          let most = few-wait (record { sound = contour .sound; stick = contour .stick }) tolerance (begun t₀) (s .tried) in
-          omega (arith, number .0, most)
+          let waits : List ℕ = waitsOf L tolerance (begun t₀) f in
+          let others : List ℕ = waitsOfAll L tolerance (tryOne L tolerance s e m) (r .end) l in
+          let same : s .tried + 0 ≡ s .tried = omega arith in
+          let deep : m ≡ suc (m - 1) = omega (arith, now .runs .0 .some) in
+          sym (getD-drop (s .tried) waits 0 0 ∙ ap (λ (k : ℕ). getD waits k 0) same) ∙ ap (λ (w : List ℕ). getD w 0 0) (now .numbers)
+          ∙ ap (λ (d : ℕ). getD (waitsOfRun L tolerance d s e m (length l) ++ others) 0 0) deep
+          ∙ waits-first L tolerance (m - 1) s e m (length l) others
 
-    -- the counts are small, and no more are tried than in the end
+      -- and so no more than 22
+      pub left-few : suc (length l) ≤ 22
+      left-few = omega (arith, left-number, few-wait (record { sound = contour .sound; stick = contour .stick }) tolerance (begun t₀) (s .tried))
+
+    -- the counts are small, and no more runs are tried so far than in the end
     pub left-small : (s : Progress) (e : Edge) (p : ℕ) (l : List Run) → RunsLeft L tolerance f n t₀ s e p l
         → (s .removed ≤ 2095104) × (s .tried ≤ 4190208) × (s .tried ≤ simplifyContour L tolerance (begun t₀) f .tried)
     left-small s e p l now =

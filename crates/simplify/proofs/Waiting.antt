@@ -45,6 +45,12 @@ module _ (L : Layer) (tolerance : ℕ) where
         ++ waitsOfRun L tolerance depth (tryRun L tolerance depth (oneTried s) e (half n)) (stickAfter L (half n) e) (n - half n) others
   ]
 
+  -- the run that is taken waits with the others
+  pub waits-first : (depth : ℕ) (s : Progress) (e : Edge) (n others : ℕ) (l : List ℕ)
+      → getD (waitsOfRun L tolerance (suc depth) s e n others ++ l) 0 0 ≡ suc others
+  unfolding waitsOfRun
+  waits-first depth s e n others l = refl
+
   pub waits-none : (s : Progress) (e : Edge) (n others : ℕ) → waitsOfRun L tolerance 0 s e n others ≡ []
   unfolding waitsOfRun
   waits-none s e n others = refl
@@ -132,7 +138,7 @@ module _ (L : Layer) (tolerance : ℕ) where
       (omega (arith, p)) (omega (arith, p)) (omega (arith, p)) (omega (arith, p)) in
       waits-splits d s e n others f ∙ (λ i. suc others ∷ (first i ++ second i)) ∙ sym (waits-splits d′ s e n others f))
 
--- a contour of a layer that passes question 1, whatever is done before it: 21 at the most,
+-- A contour of a sound layer, whatever is done before it, and so every contour of `simplify` at its turn: 21 at the most,
 module _ {L : Layer} {f : Edge} (of : StickOf L f) (tolerance : ℕ) (s : Progress) where
   pub at-most-21 : (k : ℕ) → getD (waitsOf L tolerance s f) k 0 ≤ 21
   at-most-21 =

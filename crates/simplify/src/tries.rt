@@ -13,13 +13,13 @@ ghost use Rattle.table.specs.Lent.{LentAt};
 ghost use Rattle.simplify.specs.Runs.{half, simplifyContour};
 ghost use Rattle.simplify.specs.Parts.{begun, reached, runTo, ContourLent};
 
-// A contour of this many sticks or more is worth marks.
+// From this many sticks on a contour gets marks, by which the middle of a run is soon found.
 const LONG_CONTOUR: usize = 4096;
 
-// How many runs can wait.
+// Room for the runs that wait.
 const ROOM: usize = 22;
 
-// A run that waits: how many edges it has, and the stick where it ends. It starts where the one that is taken before it ends.
+// A run that waits: how many edges it has, and the stick where it ends.
 pub struct Run {
     pub edges: usize,
     pub end: Edge,
@@ -38,7 +38,7 @@ fn half_of(n: usize) -> usize
     n / 2
 }
 
-// The run of so many edges that ends at a stick. The stick is put together anew, as a copy of the whole would copy the bytes between its fields.
+// The run of so many edges that ends at a stick. It is put together field by field, as a copy of the whole stick would copy its padding too.
 fn run_to(edges: usize, end: Edge) -> Run
     ensures { λ r. ⌜ r ≡ runTo edges end ⌝ }
 {
@@ -50,8 +50,8 @@ fn run_to(edges: usize, end: Edge) -> Run
     Run { edges, end }
 }
 
-// Tries the two runs of the contour of n sticks that starts at `first`, and the parts of those that do not pass. The first `top` of `runs` wait,
-// and the last of them is taken. It starts at the stick `at`, which is `place` steps on from `first`.
+// Tries the two runs of the contour of n sticks that starts at `first`, and the parts of those that do not pass. The first `top` of `runs` wait.
+// The last of them is taken: it starts at the stick `at`, `place` steps on from `first`, and each other one where the one after it ends.
 fn try_runs(
     size: Size,
     bitmap: &[u8],
@@ -65,8 +65,8 @@ fn try_runs(
     ensures { λ r. ⌜ reached r (now (table .exit)) ≡ simplifyContour (layerOf size (now (bitmap .entry))) t (begun (now (table .entry))) first ⌝ }
 {
     let h = half_of(n);
-    let second = run_to(n - h, first);
-    let mut runs: [Run; ROOM] = [second; ROOM];
+    let second_run = run_to(n - h, first);
+    let mut runs: [Run; ROOM] = [second_run; ROOM];
     runs[1] = run_to(h, stick_at(size, bitmap, marks, first, 0, h));
     let mut top: usize = 2;
     let mut at = first;
@@ -84,8 +84,10 @@ fn try_runs(
             at = run.end;
         } else {
             let h = half_of(run.edges);
-            runs[top] = run_to(run.edges - h, run.end);
-            runs[top + 1] = run_to(h, stick_at(size, bitmap, marks, at, place, h));
+            let second_part = run_to(run.edges - h, run.end);
+            let first_part = run_to(h, stick_at(size, bitmap, marks, at, place, h));
+            runs[top] = second_part;
+            runs[top + 1] = first_part;
             top += 2;
         }
     }
@@ -109,6 +111,6 @@ pub fn simplify_contour(
         put_marks(size, bitmap, first, n, &mut marks);
         return try_runs(size, bitmap, table, t, &marks, first, n);
     }
-    let none: [u32; 1] = [0; 1];
-    try_runs(size, bitmap, table, t, &none[1..], first, n)
+    let unmarked: [u32; 1] = [0; 1];
+    try_runs(size, bitmap, table, t, &unmarked[1..], first, n)
 }

@@ -4,6 +4,7 @@ use mathlib.Core.Path.{_≡_, refl, sym, _∙_}
 use mathlib.Core.Bool.{true, false}
 use Prim.Native.Nat.{_+_, _-_, _≤_, _<_}
 use native.Mathlib.Omega.{arith}
+use lib.ListN.{length}
 use borrow.Author.Needs.{needs}
 use Rattle.grid.specs.Layer.{layerOf}
 use Rattle.run.specs.Runs.{passes, RunLent}
@@ -11,13 +12,13 @@ use Rattle.run.proofs.Steps.{no-steps, lent-start}
 use Rattle.simplify.specs.Runs.{simplifyContour}
 use Rattle.simplify.specs.Parts.{begun}
 use Rattle.simplify.proofs.RunsLeft.{whole-from, run-lent, middle-along}
-use Rattle.simplify.proofs.Pending.{taken, Pending, pending-start, counts-small, few, taken-from, place-small, room, pending-passed, pending-split, pending-end}
+use Rattle.simplify.proofs.Pending.{topRun, Pending, pending-start, counts-small, few, top-from, place-small, room, pending-passed, pending-split, pending-end}
 use Rattle.simplify.proofs.tries.try_runs.Statement.{statement}
 use Rattle.simplify.proofs.tries.try_runs.Tie as tie
 
 abbrev Inv-loop : tie.InvT-loop
 Inv-loop size bitmap table₀ t marks n h runs₀ top₀ at₀ place₀ removed₀ tried₀ table runs top at place removed tried =
-    Pending (layerOf size bitmap) t at₀ n table₀ table runs top at place removed tried
+    Pending (layerOf size bitmap) t at₀ n table₀ runs₀ table runs top at place removed tried
 
 abbrev μ-loop : tie.MeasureT-loop
 μ-loop size bitmap table₀ t marks n h runs₀ top₀ at₀ place₀ removed₀ tried₀ table runs top at place removed tried =
@@ -35,7 +36,7 @@ loop-holds : tie.Need-loop-holds Inv-loop μ-loop
 loop-holds c =
     let second = c .before .before in
     let halving = second .before in
-    pending-start (halving .before .before .before .before .pre .contour) refl (halving .half-of .ensures) (c .before .stick-at .ensures)
+    pending-start (halving .before .before .before .before .pre .contour) (halving .half-of .ensures) (c .before .stick-at .ensures)
     (c .run-to2 .ensures) (second .run-to .ensures)
 
 -- Where a run is taken
@@ -47,16 +48,20 @@ start-of at-loop = at-loop .before .before .before .before .before .before .befo
 -- what the code that works on the run is given
 lent : (c : tie.In-loop Inv-loop μ-loop) → let a = start-of (c .before) .args in
     let l = c .before .loop in
-    let r = taken (l .runs) (l .top) in
+    let r = topRun (l .runs) (l .top) in
     RunLent (layerOf (a .size) (a .bitmap .now)) (l .table) (l .at) (r .end) (r .edges)
 lent c =
     let at-loop = c .before in
     let inv = at-loop .loop .inv in
-    run-lent (start-of at-loop .pre .contour) (inv .left .here) (taken-from (start-of at-loop .pre .contour) inv (c .loop-test .taken)) (inv .same-length ∙ start-of at-loop .pre .exact)
+    run-lent (start-of at-loop .pre .contour) (inv .remaining .here) (top-from (start-of at-loop .pre .contour) inv (c .loop-test .taken)) (inv .same-length ∙ start-of at-loop .pre .exact)
 
--- it stands in its place
-stored : (c : tie.In-loop Inv-loop μ-loop) → c .before .loop .top - 1 < 22
+-- it stands within the array
+stored : tie.Need-array-copy-out-run Inv-loop μ-loop
 stored c = omega (arith, few (start-of (c .before) .pre .contour) (c .before .loop .inv) (c .loop-test .taken))
+
+-- the array has as many places as at the start
+sized : (c : tie.At-loop Inv-loop μ-loop) → length (c .loop .runs) ≡ 22
+sized c = c .loop .inv .same-room
 
 -- where it was taken, from where it is tested
 abbrev taking : tie.After-passes-run Inv-loop μ-loop → tie.In-loop Inv-loop μ-loop
@@ -67,18 +72,18 @@ taking c = c .before .before .before
 passed : (c : tie.Then1 Inv-loop μ-loop) → let at-loop = taking (c .before) .before in
     let a = start-of at-loop .args in
     let l = at-loop .loop in
-    passes (layerOf (a .size) (a .bitmap .now)) (l .table) (a .t) (l .at) (taken (l .runs) (l .top) .edges) ≡ true
+    passes (layerOf (a .size) (a .bitmap .now)) (l .table) (a .t) (l .at) (topRun (l .runs) (l .top) .edges) ≡ true
 passed c = sym (c .before .passes-run .ensures) ∙ c .if1 .taken
 
 -- the counts and the place are small
 small : (c : tie.Then1 Inv-loop μ-loop) → let l = taking (c .before) .before .loop in
-    let m = taken (l .runs) (l .top) .edges in
+    let m = topRun (l .runs) (l .top) .edges in
     (1 ≤ m) × (l .removed + (m - 1) ≤ 4190208) × (l .place + m ≤ 2095104)
 small c =
     let here = taking (c .before) in
     let inv = here .before .loop .inv in
     let place = place-small (start-of (here .before) .pre .contour) inv (here .loop-test .taken) in (
-      taken-from (start-of (here .before) .pre .contour) inv (here .loop-test .taken) .some,
+      top-from (start-of (here .before) .pre .contour) inv (here .loop-test .taken) .some,
       omega (arith, counts-small (start-of (here .before) .pre .contour) inv, place),
       place,
     )
@@ -100,7 +105,7 @@ loop-less c =
 failed : (c : tie.Else1 Inv-loop μ-loop) → let at-loop = taking (c .before) .before in
     let a = start-of at-loop .args in
     let l = at-loop .loop in
-    passes (layerOf (a .size) (a .bitmap .now)) (l .table) (a .t) (l .at) (taken (l .runs) (l .top) .edges) ≡ false
+    passes (layerOf (a .size) (a .bitmap .now)) (l .table) (a .t) (l .at) (topRun (l .runs) (l .top) .edges) ≡ false
 failed c = sym (c .before .passes-run .ensures) ∙ c .if1 .left
 
 -- there is room for both parts
@@ -115,7 +120,7 @@ stick-at-requires-2 c κs =
     let here = taking (halving .before .before) in
     let given = start-of (here .before) .pre in
     let inv = here .before .loop .inv in
-    middle-along (given .contour) (inv .left .here) (taken-from (given .contour) inv (here .loop-test .taken)) (halving .half-of2 .ensures) (given .marked)
+    middle-along (given .contour) (inv .remaining .here) (top-from (given .contour) inv (here .loop-test .taken)) (halving .half-of2 .ensures) (given .marked)
 
 loop-again-2 : tie.Need-loop-again-2 Inv-loop μ-loop
 loop-again-2 c =
@@ -123,7 +128,7 @@ loop-again-2 c =
     let halving = finding .before .before .before in
     let here = taking (halving .before .before) in
     pending-split (start-of (here .before) .pre .contour) (here .before .loop .inv) (here .loop-test .taken) (failed (halving .before))
-    (halving .half-of2 .ensures) (finding .stick-at2 .ensures) (c .run-to4 .ensures) (finding .before .run-to3 .ensures)
+    (omega (arith, space (halving .before), sized (here .before))) (halving .half-of2 .ensures) (finding .stick-at2 .ensures) (c .run-to4 .ensures) (finding .before .run-to3 .ensures)
 
 loop-less-2 : tie.Need-loop-less-2 Inv-loop μ-loop
 loop-less-2 c =
@@ -139,9 +144,8 @@ try-runs-spec =
     (λ c κs. lent (c .before .before)) (λ c κs. lent-start (lent (taking (c .before .before))))
     (λ c. small (c .before .before .before .before .before) .0) (λ c. omega (arith, small (c .before .before .before .before .before)))
     (λ c. omega (arith, small (c .before .before .before .before .before .before))) loop-less loop-again (λ c κs. search needs)
-    (λ c. omega (arith, c .before .half-of2 .ensures)) (λ c κs. search needs) (λ c. omega (arith, space (c .before .before .before)))
-    (λ c. omega (arith, space (c .before .before .before))) stick-at-requires-2 (λ c κs. search needs)
-    (λ c. omega (arith, space (c .before .before .before .before .before))) (λ c. omega (arith, space (c .before .before .before .before .before)))
+    (λ c. omega (arith, c .before .half-of2 .ensures)) (λ c κs. search needs) stick-at-requires-2 (λ c κs. search needs)
+    (λ c. omega (arith, space (c .before .before .before .before .before))) (λ c. omega (arith, space (c .before .before .before .before .before))) (λ c. omega (arith, space (c .before .before .before .before .before))) (λ c. omega (arith, space (c .before .before .before .before .before)))
     (λ c. omega (arith, space (c .before .before .before .before .before))) (λ c. omega (arith, space (c .before .before .before .before .before)))
     loop-less-2 loop-again-2 (λ c. c .before .loop .inv .same-length)
     (λ c. pending-end (start-of (c .before) .pre .contour) (c .before .loop .inv) (omega (arith, c .loop-test .left))))
