@@ -1,7 +1,8 @@
 -- What holds of the contours of a sound layer, one that passes questions 1 to 4. Each theorem is a short citation: the laws of walks are
 -- in Orbit, Members, First and Contours, those of the grid in Sticks and Horizontal.
-use mathlib.Core.Path.{_≡_, refl, sym, _∙_}
+use mathlib.Core.Path.{_≡_, refl, sym, _∙_, ap}
 use mathlib.Core.Bool.{Bool, true, false, _&&_, _||_}
+use mathlib.Core.List.{List, _∷_}
 use Prim.Native.Nat.{ℕ, _+_, _*_, _<_}
 use native.Mathlib.Nat.{mul-le-mul}
 use native.Mathlib.Decide.{decLt}
@@ -21,7 +22,7 @@ use Rattle.grid.proofs.Numbers.{WithinGrid, within, in-kind-below}
 use Rattle.contour.specs.Walk.{occurrences, first, low, walked, ahead, Round}
 use Rattle.contour.specs.Contours.{walkOf, contourOf, firstSticks, contourCount, earlier}
 use Rattle.contour.proofs.Orbit.{round, contour-at}
-use Rattle.contour.proofs.Members.{place, on-ahead, in-list}
+use Rattle.contour.proofs.Members.{place, on-one, on-ahead, in-list}
 use Rattle.contour.proofs.First.{first-one, low-first, low-once, first-unique}
 use Rattle.contour.proofs.Contours.{count-walked, length-walked, length-contours, firsts-ascend, firsts-only, firsts-all}
 use Rattle.contour.proofs.Sticks.{laws, stick-in}
@@ -117,6 +118,28 @@ module _ (L : Layer) (sound : Sound L) where
   pub first-sticks-ascend : (i j : ℕ) (d : Edge) → i < j → j < length (firstSticks L)
       → number (L .size) (getD (firstSticks L) i d) < number (L .size) (getD (firstSticks L) j d)
   first-sticks-ascend = firsts-ascend (walkOf L) (laws L sound)
+
+-- Lists of sticks
+
+abbrev pub AllSticks : Layer → List Edge → Type 0
+AllSticks L l = (e : Edge) → 0 < occurrences (walkOf L) e l → isStick L e ≡ true
+
+module _ {L : Layer} (sound : Sound L) where
+  pub head-stick : (e : Edge) (l : List Edge) → AllSticks L (e ∷ l) → isStick L e ≡ true
+  unfolding occurrences
+  head-stick e l h = h e (omega (arith, ap asNumber (laws L sound .same-self e)))
+
+  pub tail-sticks : (e : Edge) (l : List Edge) → AllSticks L (e ∷ l) → AllSticks L l
+  unfolding occurrences
+  tail-sticks e l h f o = h f (omega arith)
+
+  -- a contour
+  pub contour-sticks : (f : Edge) → isStick L f ≡ true → AllSticks L (contourOf L f)
+  contour-sticks f stick e o = on-one (walkOf L) (laws L sound) f e stick o
+
+  -- the first sticks
+  pub firsts-sticks : AllSticks L (firstSticks L)
+  firsts-sticks f o = first-one (walkOf L) (laws L sound) f (first-sticks-only L sound f o)
 
 -- The order of edges by number is that by kind, row and column.
 

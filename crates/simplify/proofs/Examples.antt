@@ -1,19 +1,17 @@
 -- The paper's cases on simplifying, by running the definitions.
 use mathlib.Core.Path.{_≡_, refl}
 use mathlib.Core.Bool.{xor}
-use mathlib.Core.List.{List, [], _∷_, map}
+use mathlib.Core.List.{List, [], _∷_}
 use Prim.Native.Nat.{ℕ}
 use Rattle.grid.specs.Layer.{Layer, layerOf, sizeOf, sample, bit}
 use Rattle.grid.specs.Edges.{number, edgeCount, edgeAt, isStick}
 use Rattle.step.specs.Walk.{next, prev}
 use Rattle.contour.specs.Walk.{firstsAmong, ahead}
-use Rattle.contour.specs.Contours.{firstSticks}
 use Rattle.table.specs.Entries.{entryOf}
 use Rattle.table.specs.Vertices.{offsetAt}
 use Rattle.chord.specs.Crossing.{off, parted, crosses, slidesWithin}
 use Rattle.simplify.specs.Runs.{simplify}
-use Rattle.simplify.specs.Parts.{begun}
-use Rattle.simplify.specs.Waiting.{waitsOfRun, waitsOf}
+use Rattle.simplify.specs.Waiting.{waitsOfRun, waitsOf, waitsInTurn, waits}
 
 -- "W 3, H 3, inside (1,1)", traced
 abbrev pub single : Layer
@@ -47,18 +45,18 @@ pub bar-kept : simplify bar 85 (barTable 128 128) ≡ record { table = barTable 
 unfolding simplify firstsAmong ahead number edgeCount edgeAt isStick sample bit next prev xor entryOf offsetAt crosses slidesWithin parted off
 bar-kept = refl
 
--- How many runs wait before each is taken. On the single sample two runs of two edges, each of which is split:
-pub single-waits : map (waitsOf single 255 (begun singleTraced)) (firstSticks single) ≡ (2 ∷ 3 ∷ 2 ∷ 1 ∷ 2 ∷ 1 ∷ []) ∷ []
-unfolding waitsOf waitsOfRun simplify firstsAmong ahead number edgeCount edgeAt isStick sample bit next prev xor entryOf offsetAt crosses slidesWithin parted off
+-- How many runs wait before each is taken. On the single sample: two runs of two edges, each split into single edges.
+pub single-waits : waits single 255 singleTraced ≡ 2 ∷ 3 ∷ 2 ∷ 1 ∷ 2 ∷ 1 ∷ []
+unfolding waitsInTurn waitsOf waitsOfRun simplify firstsAmong ahead number edgeCount edgeAt isStick sample bit next prev xor entryOf offsetAt crosses slidesWithin parted off
 single-waits = refl
 
--- on two samples side by side two of three edges, whose second part is the longer one
+-- On two samples side by side: two runs of three edges, each split into one edge and two.
 abbrev pair : Layer
 pair = layerOf (sizeOf 4 3) (0 ∷ 6 ∷ 0 ∷ [])
 
 abbrev pairTraced : List ℕ
 pairTraced = 0 ∷ 0 ∷ 0 ∷ 128 ∷ 0 ∷ 128 ∷ 0 ∷ 0 ∷ 0 ∷ 0 ∷ 128 ∷ 128 ∷ 0 ∷ 0 ∷ 128 ∷ 128 ∷ 0 ∷ []
 
-pub pair-waits : map (waitsOf pair 0 (begun pairTraced)) (firstSticks pair) ≡ (2 ∷ 3 ∷ 2 ∷ 3 ∷ 2 ∷ 1 ∷ 2 ∷ 1 ∷ 2 ∷ 1 ∷ []) ∷ []
-unfolding waitsOf waitsOfRun simplify firstsAmong ahead number edgeCount edgeAt isStick sample bit next prev xor entryOf offsetAt crosses slidesWithin parted off
+pub pair-waits : waits pair 0 pairTraced ≡ 2 ∷ 3 ∷ 2 ∷ 3 ∷ 2 ∷ 1 ∷ 2 ∷ 1 ∷ 2 ∷ 1 ∷ []
+unfolding waitsInTurn waitsOf waitsOfRun simplify firstsAmong ahead number edgeCount edgeAt isStick sample bit next prev xor entryOf offsetAt crosses slidesWithin parted off
 pair-waits = refl

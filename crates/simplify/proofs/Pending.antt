@@ -107,7 +107,7 @@ module _ {L : Layer} {f : Edge} {n : ℕ} (contour : HasSticks L f n) where
       with-top = rw (waiting-less runs top some) at (now .remaining)
 
       -- as many wait as the definition says
-      pub top-is : top ≡ getD (waitsOf L tolerance (begun t₀) f) tried 0
+      pub top-is : top ≡ getD (waitsOf L tolerance t₀ f) tried 0
       top-is = omega (arith, left-number contour tolerance t₀ with-top, waiting-length runs (top - 1))
 
       pub few : top ≤ 22

@@ -22,7 +22,7 @@ use Rattle.simplify.specs.Waiting.{waitsOfRun, waitsOf}
 use Rattle.simplify.specs.declared.tries.Run.{Run}
 use Rattle.simplify.proofs.Trying.{Split, split, split-of, inner-is, try-passes, try-splits, try-deep, try-bounds, contour-runs}
 use Rattle.simplify.proofs.Layers.{contour-bounds}
-use Rattle.simplify.proofs.Waiting.{waits-first, waits-passes, waits-splits, waits-deep, waits-contour, few-wait}
+use Rattle.simplify.proofs.Waiting.{waits-first, waits-passes, waits-splits, waits-deep, waits-contour, contour-few}
 
 -- Runs tried one after the other
 
@@ -137,7 +137,7 @@ module _ (L : Layer) (tolerance : ℕ) (f : Edge) (n : ℕ) (t₀ : List ℕ) wh
   pub record RunsLeft (s : Progress) (e : Edge) (p : ℕ) (l : List Run) : Type 0 where
     pub here : e ≡ stickAfter L p f
     pub runs : RunsFrom L n e p l
-    pub numbers : drop (s .tried) (waitsOf L tolerance (begun t₀) f) ≡ waitsOfAll L tolerance s e l
+    pub numbers : drop (s .tried) (waitsOf L tolerance t₀ f) ≡ waitsOfAll L tolerance s e l
     pub gives : tryAll L tolerance s e l ≡ simplifyContour L tolerance (begun t₀) f
 
 -- what is left of a list after one number more
@@ -176,7 +176,7 @@ module _ {L : Layer} {f : Edge} {n : ℕ} (contour : HasSticks L f n) where
         record {
           here = no-steps L f;
           runs = (from .0, (from .1, tt));
-          numbers = waits-contour L tolerance (begun t₀) f
+          numbers = waits-contour L tolerance t₀ f
               ∙ ap (λ (k : ℕ). waitsOfRun L tolerance k (begun t₀) f (half k) 1
               ++ waitsOfRun L tolerance k (tryRun L tolerance k (begun t₀) f (half k)) (stickAfter L (half k) f) (k - half k) 0) (sym (contour .all))
               ∙ sym (parts-wait L tolerance n (begun t₀) f whole-splits (omega arith) 0)
@@ -200,7 +200,7 @@ module _ {L : Layer} {f : Edge} {n : ℕ} (contour : HasSticks L f n) where
           record {
             here = steps-on L f p (r .edges) (now .here) (from .ends);
             runs = now .runs .1;
-            numbers = one-more (s .tried) (waitsOf L tolerance (begun t₀) f)
+            numbers = one-more (s .tried) (waitsOf L tolerance t₀ f)
                 (now .numbers ∙ (λ i. counts i ++ waitsOfAll L tolerance (is i) (r .end) l));
             gives = ap (λ (x : Progress). tryAll L tolerance x (r .end) l) (sym is) ∙ now .gives;
           }
@@ -222,16 +222,16 @@ module _ {L : Layer} {f : Edge} {n : ℕ} (contour : HasSticks L f n) where
           record {
             here = now .here;
             runs = (from .0, (from .1, rw sum at (now .runs .1)));
-            numbers = one-more (s .tried) (waitsOf L tolerance (begun t₀) f)
+            numbers = one-more (s .tried) (waitsOf L tolerance t₀ f)
                 (now .numbers ∙ (λ i. counts i ++ waitsOfAll L tolerance (is i) (r .end) l) ∙ ap (λ (w : List ℕ). suc (length l) ∷ w) in-turn);
             gives = ap (λ (x : Progress). tryAll L tolerance x (r .end) l) (sym is) ∙ now .gives;
           }
 
       -- the next number of `waitsOf` is how many wait,
-      pub left-number : getD (waitsOf L tolerance (begun t₀) f) (s .tried) 0 ≡ suc (length l)
+      pub left-number : getD (waitsOf L tolerance t₀ f) (s .tried) 0 ≡ suc (length l)
       left-number =
           let m : ℕ = r .edges in
-          let waits : List ℕ = waitsOf L tolerance (begun t₀) f in
+          let waits : List ℕ = waitsOf L tolerance t₀ f in
           let others : List ℕ = waitsOfAll L tolerance (tryOne L tolerance s e m) (r .end) l in
           let same : s .tried + 0 ≡ s .tried = omega arith in
           let deep : m ≡ suc (m - 1) = omega (arith, now .runs .0 .some) in
@@ -241,7 +241,7 @@ module _ {L : Layer} {f : Edge} {n : ℕ} (contour : HasSticks L f n) where
 
       -- and so no more than 22
       pub left-few : suc (length l) ≤ 22
-      left-few = omega (arith, left-number, few-wait (record { sound = contour .sound; stick = contour .stick }) tolerance (begun t₀) (s .tried))
+      left-few = omega (arith, left-number, contour-few (record { sound = contour .sound; stick = contour .stick }) tolerance t₀ (s .tried))
 
     -- the counts are small, and no more runs are tried so far than in the end
     pub left-small : (s : Progress) (e : Edge) (p : ℕ) (l : List Run) → RunsLeft L tolerance f n t₀ s e p l

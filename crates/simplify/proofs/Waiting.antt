@@ -1,9 +1,8 @@
--- How many runs wait while a contour is simplified: never more than 22 (`few-wait`), and one number stands for each run that is tried
--- (`one-for-each`). A run of fewer than 2^k edges keeps at most k waiting, itself included: its first part has fewer than 2^(k-1), and when its
+-- How many runs wait while a layer is simplified: never more than 22 (`few-wait`), and one number stands for each run that is tried (`each-run`). A run of fewer than 2^k edges keeps at most k waiting, itself included: its first part has fewer than 2^(k-1), and when its
 -- second part is taken the first is done.
 use mathlib.Core.Path.{_≡_, refl, sym, _∙_, ap}
 use mathlib.Core.Bool.{Bool, true, false}
-use mathlib.Core.List.{List, [], _∷_, _++_}
+use mathlib.Core.List.{List, [], _∷_, _++_, foldl}
 use Prim.Native.Nat.{ℕ, zero, suc, _+_, _-_, _^_, _≤_, _<_}
 use native.Mathlib.Nat.{two-pow-succ}
 use native.Mathlib.Omega.{arith}
@@ -11,13 +10,17 @@ use lib.ListN.{length, getD, length-append}
 use Rattle.arith.proofs.Booleans.{both-sides}
 use Rattle.grid.specs.Layer.{Layer}
 use Rattle.grid.specs.declared.edge.Edge.{Edge}
-use Rattle.contour.specs.Contours.{contourOf}
+use Rattle.grid.specs.Questions.{Sound}
+use Rattle.contour.specs.Contours.{contourOf, firstSticks}
+use Rattle.contour.proofs.Theorems.{AllSticks, head-stick, tail-sticks, firsts-sticks}
 use Rattle.drawn.proofs.FourKept.{four-sticks}
 use Rattle.run.specs.Runs.{stickAfter, passes, StickOf, HasSticks}
 use Rattle.run.proofs.Steps.{most-sticks}
-use Rattle.simplify.specs.Runs.{Progress, half, oneTried, tryRun, simplifyContour}
-use Rattle.simplify.specs.Waiting.{waitsOfRun, waitsOf}
-use Rattle.simplify.proofs.Trying.{split, inner-is, try-none, try-passes, try-splits, try-deep, contour-runs}
+use Rattle.simplify.specs.Runs.{Progress, half, oneTried, tryRun, simplifyContour, simplify}
+use Rattle.simplify.specs.Waiting.{waitsOfRun, waitsOf, waitsInTurn, waits}
+use Rattle.simplify.specs.Parts.{begun}
+use Rattle.simplify.proofs.Layers.{contour-from, simplify-is}
+use Rattle.simplify.proofs.Trying.{onTop, split, inner-is, try-none, try-passes, try-splits, try-deep, contour-runs}
 
 -- no number of a list is above the most
 record AtMost (most : ℕ) (l : List ℕ) : Type 0 where
@@ -67,11 +70,11 @@ module _ (L : Layer) (tolerance : ℕ) where
   unfolding waitsOfRun by-passes
   waits-splits depth s e n others h = ap (by-passes depth s e n others) h
 
-  pub waits-contour : (s : Progress) (f : Edge) → let n : ℕ = length (contourOf L f) in waitsOf L tolerance s f
-      ≡ waitsOfRun L tolerance n s f (half n) 1
-      ++ waitsOfRun L tolerance n (tryRun L tolerance n s f (half n)) (stickAfter L (half n) f) (n - half n) 0
+  pub waits-contour : (t : List ℕ) (f : Edge) → let n : ℕ = length (contourOf L f) in waitsOf L tolerance t f
+      ≡ waitsOfRun L tolerance n (begun t) f (half n) 1
+      ++ waitsOfRun L tolerance n (tryRun L tolerance n (begun t) f (half n)) (stickAfter L (half n) f) (n - half n) 0
   unfolding waitsOf
-  waits-contour s f = refl
+  waits-contour t f = refl
 
   -- a run of fewer than 2^k edges
   run-below : (depth k : ℕ) (s : Progress) (e : Edge) (n others : ℕ) → 1 ≤ n → n < 2 ^ k
@@ -90,13 +93,13 @@ module _ (L : Layer) (tolerance : ℕ) where
       rw (waits-splits depth s e n others f) (first-too (omega arith) (both-parts _ _ (rw sum at first) second)))
 
   -- a contour whose two runs have fewer than 2^k edges
-  contour-below : (k : ℕ) (s : Progress) (f : Edge) → let n : ℕ = length (contourOf L f) in 2 ≤ n → n - half n < 2 ^ k
-      → AtMost (k + 1) (waitsOf L tolerance s f)
-  contour-below k s f more small =
+  contour-below : (k : ℕ) (t : List ℕ) (f : Edge) → let n : ℕ = length (contourOf L f) in 2 ≤ n → n - half n < 2 ^ k
+      → AtMost (k + 1) (waitsOf L tolerance t f)
+  contour-below k t f more small =
       let n : ℕ = length (contourOf L f) in
-      let first = run-below n k s f (half n) 1 (omega arith) (omega arith) in
-      let second = run-below n k (tryRun L tolerance n s f (half n)) (stickAfter L (half n) f) (n - half n) 0 (omega arith) small in
-      rw (waits-contour s f) (both-parts _ _ first (record { each = λ j. omega (arith, second .each j) }))
+      let first = run-below n k (begun t) f (half n) 1 (omega arith) (omega arith) in
+      let second = run-below n k (tryRun L tolerance n (begun t) f (half n)) (stickAfter L (half n) f) (n - half n) 0 (omega arith) small in
+      rw (waits-contour t f) (both-parts _ _ first (record { each = λ j. omega (arith, second .each j) }))
 
   -- one number for each run that is tried
   one-for-each-run : (depth : ℕ) (s : Progress) (e : Edge) (n others : ℕ)
@@ -112,14 +115,14 @@ module _ (L : Layer) (tolerance : ℕ) where
       (waitsOfRun L tolerance depth m (stickAfter L (half n) e) (n - half n) others) in
       rw (try-splits L tolerance depth s e n f, waits-splits depth s e n others f) (omega (arith, first, second, sum)))
 
-  pub one-for-each : (s : Progress) (f : Edge) → simplifyContour L tolerance s f .tried ≡ s .tried + length (waitsOf L tolerance s f)
-  one-for-each s f =
+  one-for-each : (t : List ℕ) (f : Edge) → simplifyContour L tolerance (begun t) f .tried ≡ length (waitsOf L tolerance t f)
+  one-for-each t f =
       let n : ℕ = length (contourOf L f) in
-      let m : Progress = tryRun L tolerance n s f (half n) in
-      let first = one-for-each-run n s f (half n) 1 in
+      let m : Progress = tryRun L tolerance n (begun t) f (half n) in
+      let first = one-for-each-run n (begun t) f (half n) 1 in
       let second = one-for-each-run n m (stickAfter L (half n) f) (n - half n) 0 in
-      let sum = length-append (waitsOfRun L tolerance n s f (half n) 1) (waitsOfRun L tolerance n m (stickAfter L (half n) f) (n - half n) 0) in
-      rw (contour-runs L tolerance s f, waits-contour s f) (omega (arith, first, second, sum))
+      let sum = length-append (waitsOfRun L tolerance n (begun t) f (half n) 1) (waitsOfRun L tolerance n m (stickAfter L (half n) f) (n - half n) 0) in
+      rw (contour-runs L tolerance (begun t) f, waits-contour t f) (omega (arith, first, second, sum))
 
   -- a depth of as many as there are edges is enough
   pub waits-deep : (d d′ : ℕ) (s : Progress) (e : Edge) (n others : ℕ) → 1 ≤ d → n ≤ d → 1 ≤ d′ → n ≤ d′
@@ -138,14 +141,45 @@ module _ (L : Layer) (tolerance : ℕ) where
       (omega (arith, p)) (omega (arith, p)) (omega (arith, p)) (omega (arith, p)) in
       waits-splits d s e n others f ∙ (λ i. suc others ∷ (first i ++ second i)) ∙ sym (waits-splits d′ s e n others f))
 
--- A contour of a sound layer, whatever is done before it, and so every contour of `simplify` at its turn: 21 at the most,
-module _ {L : Layer} {f : Edge} (of : StickOf L f) (tolerance : ℕ) (s : Progress) where
-  pub at-most-21 : (k : ℕ) → getD (waitsOf L tolerance s f) k 0 ≤ 21
-  at-most-21 =
+-- The contour of any stick of a sound layer, from any table on: 21 at the most,
+module _ {L : Layer} {f : Edge} (of : StickOf L f) (tolerance : ℕ) (t : List ℕ) where
+  contour-most : AtMost 21 (waitsOf L tolerance t f)
+  contour-most =
       let contour : HasSticks L f (length (contourOf L f)) = record { sound = of .sound; stick = of .stick; all = refl } in
       let four = four-sticks L (of .sound) f (of .stick) in
-      contour-below L tolerance 20 s f (omega (arith, four)) (omega (arith, most-sticks contour)) .each
+      contour-below L tolerance 20 t f (omega (arith, four)) (omega (arith, most-sticks contour))
 
-  -- and so "never more than 22 wait at once"
-  pub few-wait : (k : ℕ) → getD (waitsOf L tolerance s f) k 0 ≤ 22
-  few-wait k = omega (arith, at-most-21 k)
+  pub contour-few : (k : ℕ) → getD (waitsOf L tolerance t f) k 0 ≤ 22
+  contour-few k = omega (arith, contour-most .each k)
+
+-- and so over every layer.
+module _ {L : Layer} (sound : Sound L) (tolerance : ℕ) where
+  in-turn-most : (l : List Edge) → AllSticks L l → (t : List ℕ) → AtMost 21 (waitsInTurn L tolerance t l)
+  unfolding waitsInTurn
+  in-turn-most [] h t = none-above
+  in-turn-most (f ∷ l) h t =
+      both-parts _ _ (contour-most (record { sound = sound; stick = head-stick sound f l h }) tolerance t)
+      (in-turn-most l (tail-sticks sound f l h) (simplifyContour L tolerance (begun t) f .table))
+
+  pub at-most-21 : (t : List ℕ) (k : ℕ) → getD (waits L tolerance t) k 0 ≤ 21
+  at-most-21 t = in-turn-most (firstSticks L) (firsts-sticks sound) t .each
+
+  -- "never more than 22 wait at once"
+  pub few-wait : (t : List ℕ) (k : ℕ) → getD (waits L tolerance t) k 0 ≤ 22
+  few-wait t k = omega (arith, at-most-21 t k)
+
+-- There is a number for each run that is tried.
+module _ (L : Layer) (tolerance : ℕ) where
+  in-turn-each : (l : List Edge) (s : Progress)
+      → foldl (simplifyContour L tolerance) s l .tried ≡ s .tried + length (waitsInTurn L tolerance (s .table) l)
+  unfolding waitsInTurn
+  in-turn-each [] s = omega arith
+  in-turn-each (f ∷ l) s =
+      let r : Progress = simplifyContour L tolerance (begun (s .table)) f in
+      let first = one-for-each L tolerance (s .table) f in
+      let others = in-turn-each l (onTop s r) in
+      let sum = length-append (waitsOf L tolerance (s .table) f) (waitsInTurn L tolerance (r .table) l) in
+      ap (λ (x : Progress). foldl (simplifyContour L tolerance) x l .tried) (contour-from L tolerance s f) ∙ omega (arith, first, others, sum)
+
+  pub each-run : (t : List ℕ) → simplify L tolerance t .tried ≡ length (waits L tolerance t)
+  each-run t = rw (simplify-is L tolerance t) (omega (arith, in-turn-each (firstSticks L) (begun t)))

@@ -25,6 +25,7 @@ use Rattle.contour.specs.Contours.{walkOf, contourOf, firstSticks, contoursOf}
 use Rattle.contour.proofs.Outer.{foldl-flatten}
 use Rattle.contour.proofs.Contours.{walked-one}
 use Rattle.contour.proofs.Sticks.{laws}
+use Rattle.contour.proofs.Theorems.{AllSticks, head-stick, tail-sticks, contour-sticks, firsts-sticks}
 use Rattle.chord.specs.Points.{Position, Point, Meets, slide}
 use Rattle.chord.specs.Crossing.{base, distance, off, along, meeting}
 use Rattle.table.specs.Vertices.{offsetAt}
@@ -40,8 +41,7 @@ use Rattle.smooth.specs.Call.{smoothOf}
 use Rattle.smooth.specs.Former.{roundedUp, upwardAt, upwardVisit, formerPass, former, upwardContour, upwardSmooth, upwardOf}
 use Rattle.smooth.proofs.Neighbours.{OnSide}
 use Rattle.smooth.proofs.Steps.{previous-vertex, next-vertex, neighbours-around, visit-kept}
-use Rattle.smooth.proofs.Passes.{smoothNext, smooth-is, until-same, AllSticks, head-stick, tail-sticks, passContour-kept, contour-sticks, contourPass-kept, contour-kept}
-use Rattle.smooth.proofs.Rounds.{firsts-sticks}
+use Rattle.smooth.proofs.Passes.{smoothNext, smooth-is, until-same, passContour-kept, contourPass-kept, contour-kept}
 use Rattle.smooth.proofs.Held.{same-call}
 
 -- ---- on numbers

@@ -3,19 +3,16 @@
 use mathlib.Core.Path.{_≡_, refl, sym, _∙_, ap}
 use mathlib.Core.Bool.{Bool, true, false, true≢false}
 use mathlib.Core.List.{List, [], _∷_, foldl}
-use Prim.Native.Nat.{ℕ, zero, suc, _+_, _*_, _≤_, _<_}
+use Prim.Native.Nat.{ℕ, zero, suc, _+_, _*_, _≤_}
 use native.Mathlib.Omega.{arith}
 use lib.ListN.{length}
-use Rattle.arith.specs.Booleans.{asNumber}
 use Rattle.arith.proofs.Booleans.{both-sides}
 use Rattle.grid.specs.Layer.{Layer}
 use Rattle.grid.specs.Edges.{isStick}
 use Rattle.grid.specs.Questions.{Sound}
 use Rattle.grid.specs.declared.edge.Edge.{Edge}
-use Rattle.contour.specs.Walk.{occurrences}
-use Rattle.contour.specs.Contours.{walkOf, contourOf, firstSticks}
-use Rattle.contour.proofs.Members.{on-one}
-use Rattle.contour.proofs.Sticks.{laws}
+use Rattle.contour.specs.Contours.{contourOf, firstSticks}
+use Rattle.contour.proofs.Theorems.{AllSticks, head-stick, tail-sticks, contour-sticks}
 use Rattle.table.proofs.AllKept.{AllKept}
 use Rattle.smooth.specs.Smooth.{Pass, passed, visit, passContour, contourPass, isSettled, Smoothed, further, until, unsmoothed, settle, smoothContour, noContour, withContour, smooth}
 use Rattle.smooth.proofs.Steps.{visit-kept, visit-total}
@@ -93,48 +90,32 @@ until-same {F} {G} vertices P same keeps (suc n) s h =
     ∙ until-same vertices P same keeps n (further G vertices s) (keeps (s .table) h) in
     ap (λ (r : Smoothed). elim (s .settled) [ true ↦ s | false ↦ r ]) later
 
--- ---- a list of sticks, such as a contour
-
-abbrev pub AllSticks : Layer → List Edge → Type 0
-AllSticks L c = (e : Edge) → 0 < occurrences (walkOf L) e c → isStick L e ≡ true
-
 -- what smoothing a contour leaves: every vertex is kept, at an offset of 1 to 255, and the total is at most 254 for each of its vertices
 pub record StillKept (L : Layer) (f : Edge) (s : Smoothed) : Type 0 where
   pub kept : AllKept L (s .table)
   pub total-most : s .total ≤ 254 * length (contourOf L f)
 
 module _ {L : Layer} (sound : Sound L) where
-  pub head-stick : (e : Edge) (c : List Edge) → AllSticks L (e ∷ c) → isStick L e ≡ true
-  unfolding occurrences
-  head-stick e c h = h e (omega (arith, ap asNumber (laws L sound .same-self e)))
-
-  pub tail-sticks : (e : Edge) (c : List Edge) → AllSticks L (e ∷ c) → AllSticks L c
-  unfolding occurrences
-  tail-sticks e c h f o = h f (omega arith)
-
   pub passContour-kept : (c : List Edge) → AllSticks L c → (s : Pass) → AllKept L (s .table) → AllKept L (passContour L s c .table)
   unfolding passContour
   passContour-kept [] h s kept = kept
-  passContour-kept (e ∷ c) h s kept = passContour-kept c (tail-sticks e c h) (visit L s e) (visit-kept sound s kept e (head-stick e c h))
+  passContour-kept (e ∷ c) h s kept = passContour-kept c (tail-sticks sound e c h) (visit L s e) (visit-kept sound s kept e (head-stick sound e c h))
 
   passContour-total : (c : List Edge) → AllSticks L c → (s : Pass) → AllKept L (s .table) → passContour L s c .total ≤ s .total + 254 * length c
   unfolding passContour
   passContour-total [] h s kept = omega arith
   passContour-total (e ∷ c) h s kept =
-      let stick = head-stick e c h in
-      omega (arith, visit-total sound s kept e stick, passContour-total c (tail-sticks e c h) (visit L s e) (visit-kept sound s kept e stick))
+      let stick = head-stick sound e c h in
+      omega (arith, visit-total sound s kept e stick, passContour-total c (tail-sticks sound e c h) (visit L s e) (visit-kept sound s kept e stick))
 
   -- ---- the contour of a stick
 
   module _ (f : Edge) (stick : isStick L f ≡ true) where
-    pub contour-sticks : AllSticks L (contourOf L f)
-    contour-sticks e o = on-one (walkOf L) (laws L sound) f e stick o
-
     pub contourPass-kept : {t : List ℕ} → AllKept L t → AllKept L (contourPass L f t .table)
-    contourPass-kept {t} kept = passContour-kept (contourOf L f) contour-sticks (passed t 0) kept
+    contourPass-kept {t} kept = passContour-kept (contourOf L f) (contour-sticks sound f stick) (passed t 0) kept
 
     pub contourPass-total : {t : List ℕ} → AllKept L t → contourPass L f t .total ≤ 254 * length (contourOf L f)
-    contourPass-total {t} kept = omega (arith, passContour-total (contourOf L f) contour-sticks (passed t 0) kept)
+    contourPass-total {t} kept = omega (arith, passContour-total (contourOf L f) (contour-sticks sound f stick) (passed t 0) kept)
 
     pub contour-kept : (limit : ℕ) {t : List ℕ} → AllKept L t → StillKept L f (smoothContour L limit t f)
     contour-kept limit {t} kept =

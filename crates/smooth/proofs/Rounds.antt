@@ -10,17 +10,15 @@ use Rattle.arith.proofs.Booleans.{both-sides}
 use Rattle.grid.specs.Layer.{Layer}
 use Rattle.grid.specs.Questions.{Sound}
 use Rattle.grid.specs.declared.edge.Edge.{Edge}
-use Rattle.contour.specs.Contours.{walkOf, contourOf, firstSticks}
+use Rattle.contour.specs.Contours.{contourOf, firstSticks}
 use Rattle.contour.specs.Sets.{FirstSet}
 use Rattle.contour.specs.Cursors.{left, Placed, Opened, Moved}
 use Rattle.contour.specs.declared.cursor.Cursor.{Cursor}
-use Rattle.contour.proofs.First.{first-one}
-use Rattle.contour.proofs.Sticks.{laws}
-use Rattle.contour.proofs.Theorems.{first-sticks-only}
+use Rattle.contour.proofs.Theorems.{AllSticks, head-stick, tail-sticks, firsts-sticks}
 use Rattle.contour.proofs.Cursors.{here-stick, here-left, none-left, fold-turn, fold-end}
 use Rattle.table.proofs.AllKept.{AllKept, passes-entries, passes-all-kept}
 use Rattle.smooth.specs.Smooth.{mostTotal, Smoothed, noContour, withContour, smoothContour, smooth, Smoothable, SmoothableAt}
-use Rattle.smooth.proofs.Passes.{standing, smoothNext, smooth-is, AllSticks, head-stick, tail-sticks, StillKept, contour-kept, WithinLimit, contour-passes}
+use Rattle.smooth.proofs.Passes.{standing, smoothNext, smooth-is, StillKept, contour-kept, WithinLimit, contour-passes}
 use Rattle.smooth.proofs.Sizes.{vertices-most}
 
 pub kept-smoothable : {L : Layer} {t : List ℕ} → Sound L → AllKept L t → Smoothable L t
@@ -33,10 +31,6 @@ kept-smoothable {L} {t} sound kept =
     }
 
 -- ---- what comes of it: every vertex is kept, at an offset of 1 to 255, after it as before; and the limit
-
--- first sticks are sticks
-pub firsts-sticks : {L : Layer} → Sound L → AllSticks L (firstSticks L)
-firsts-sticks {L} sound f o = first-one (walkOf L) (laws L sound) f (first-sticks-only L sound f o)
 
 module _ {L : Layer} (sound : Sound L) (limit : ℕ) where
   contours-kept : (l : List Edge) → AllSticks L l → (s : Smoothed) → AllKept L (s .table) → AllKept L (foldl (smoothNext L limit) s l .table)

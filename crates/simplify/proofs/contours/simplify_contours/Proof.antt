@@ -1,5 +1,5 @@
 -- `simplify_contours` meets its contract. The invariant: simplifying the contours from here on, on top of what is done, simplifies the layer.
--- Laws of such a loop are in Layers; the figures stay small since each contour tries no more runs than it has sticks.
+-- Laws of such a loop are in Layers; the counts stay small, as a contour tries at most two runs for each of its sticks.
 use mathlib.Core.Path.{_∙_}
 use Prim.Native.Nat.{_+_, _≤_}
 use native.Mathlib.Omega.{arith}

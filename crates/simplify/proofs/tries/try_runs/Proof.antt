@@ -1,8 +1,8 @@
 -- `try_runs` meets its contract. The invariant: trying the runs that wait gives what the contour is to give, and as many wait as the definition
 -- says. The measure is how many runs are still to be tried. `passed` and `failed` are the two answers of the test.
-use mathlib.Core.Path.{_≡_, refl, sym, _∙_}
+use mathlib.Core.Path.{_≡_, sym, _∙_}
 use mathlib.Core.Bool.{true, false}
-use Prim.Native.Nat.{_+_, _-_, _≤_, _<_}
+use Prim.Native.Nat.{_+_, _-_, _≤_}
 use native.Mathlib.Omega.{arith}
 use lib.ListN.{length}
 use borrow.Author.Needs.{needs}
