@@ -158,15 +158,15 @@ module _ {L : Layer} {f : Edge} {n : ℕ} (contour : HasSticks L f n) where
     run-lent exact =
         record { sound = contour .sound; exact = exact; stick = stick-on L f p (contour .sound) (contour .stick) here; ends = from .ends }
 
-    pub middle-along : {h : ℕ} → h ≡ half (r .edges) → {marks : List ℕ} → MarkedAlong L f marks → Along L marks e p h
-    middle-along at-h marked =
+    pub middle-along : Split (r .edges) → {h : ℕ} → h ≡ half (r .edges) → {marks : List ℕ} → MarkedAlong L f marks → Along L marks e p h
+    middle-along parts at-h marked =
         record {
           sound = contour .sound;
           from = f;
           stick = contour .stick;
           marked = marked;
           here = here;
-          inside = omega (arith, at-h, from, contour .all);
+          inside = omega (arith, at-h, parts .first-less, from, contour .all);
         }
 
   module _ (tolerance : ℕ) (t₀ : List ℕ) where

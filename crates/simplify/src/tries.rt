@@ -50,8 +50,9 @@ fn run_to(edges: usize, end: Edge) -> Run
     Run { edges, end }
 }
 
-// Tries the two runs of the contour of n sticks that starts at `first`, and the parts of those that do not pass. The first `top` of `runs` wait.
-// The last of them is taken: it starts at the stick `at`, `place` steps on from `first`, and each other one where the one after it ends.
+// Tries the two runs of the contour of n sticks that starts at `first`, and the parts of those that do not pass. The first `top` of `runs` wait; what
+// stands after them means nothing. The last of them is taken: it starts at the stick `at`, `place` steps on from `first`, and each other one where
+// the one after it ends.
 fn try_runs(
     size: Size,
     bitmap: &[u8],

@@ -11,7 +11,8 @@ use Rattle.run.specs.Runs.{passes, RunLent}
 use Rattle.run.proofs.Steps.{no-steps, lent-start}
 use Rattle.simplify.specs.Runs.{simplifyContour}
 use Rattle.simplify.specs.Parts.{begun}
-use Rattle.simplify.proofs.RunsLeft.{whole-from, run-lent, middle-along}
+use Rattle.simplify.proofs.Trying.{split}
+use Rattle.simplify.proofs.RunsLeft.{whole-splits, whole-from, run-lent, middle-along}
 use Rattle.simplify.proofs.Pending.{topRun, Pending, pending-start, counts-small, few, top-from, place-small, room, pending-passed, pending-split, pending-end}
 use Rattle.simplify.proofs.tries.try_runs.Statement.{statement}
 use Rattle.simplify.proofs.tries.try_runs.Tie as tie
@@ -30,7 +31,7 @@ stick-at-requires : tie.Need-stick-at-requires Inv-loop μ-loop
 stick-at-requires c κs =
     let halving = c .before in
     let given = halving .before .before .before .before .pre in
-    middle-along (given .contour) (no-steps _ _) (whole-from (given .contour)) (halving .half-of .ensures) (given .marked)
+    middle-along (given .contour) (no-steps _ _) (whole-from (given .contour)) (whole-splits (given .contour)) (halving .half-of .ensures) (given .marked)
 
 loop-holds : tie.Need-loop-holds Inv-loop μ-loop
 loop-holds c =
@@ -120,7 +121,8 @@ stick-at-requires-2 c κs =
     let here = taking (halving .before .before) in
     let given = start-of (here .before) .pre in
     let inv = here .before .loop .inv in
-    middle-along (given .contour) (inv .remaining .here) (top-from (given .contour) inv (here .loop-test .taken)) (halving .half-of2 .ensures) (given .marked)
+    middle-along (given .contour) (inv .remaining .here) (top-from (given .contour) inv (here .loop-test .taken))
+    (split _ _ _ _ _ (failed (halving .before))) (halving .half-of2 .ensures) (given .marked)
 
 loop-again-2 : tie.Need-loop-again-2 Inv-loop μ-loop
 loop-again-2 c =
