@@ -273,8 +273,8 @@ fn random_layers(wrong: &mut Vec<String>, seed: u64) {
     }
 }
 
-/// A serpentine of the largest size has 511 rows of 1,022 samples and as many samples that
-/// join them, each next to the one before it: twice as many sticks and two more.
+/// A serpentine of the largest size has 511 rows of 1,022 samples, 510 samples that join them
+/// and one at its end, each next to the one before it: twice as many sticks and two more.
 fn on_a_serpentine(wrong: &mut Vec<String>) {
     let mut machine = traced(&picture::serpentine(1024, 1024));
     let done = Done::new(&mut machine, 0).expect("every vertex is kept");

@@ -119,8 +119,7 @@ module _ (L : Layer) (sound : Sound L) where
       → number (L .size) (getD (firstSticks L) i d) < number (L .size) (getD (firstSticks L) j d)
   first-sticks-ascend = firsts-ascend (walkOf L) (laws L sound)
 
--- Lists of sticks
-
+-- every edge of a list is a stick
 abbrev pub AllSticks : Layer → List Edge → Type 0
 AllSticks L l = (e : Edge) → 0 < occurrences (walkOf L) e l → isStick L e ≡ true
 
@@ -201,7 +200,7 @@ pub first-sticks-earlier : (L : Layer) → Sound L → (i j : ℕ) (d : Edge) �
 first-sticks-earlier L sound i j d h l =
     let law = laws L sound in
     let in-grid : (k : ℕ) → k < length (firstSticks L) → inGrid (L .size) (getD (firstSticks L) k d) ≡ true =
-    λ k b. stick-in L _ (first-one (walkOf L) law _ (first-sticks-only L sound _ (in-list (walkOf L) law (firstSticks L) k d b))) in
+    λ k b. stick-in L _ (firsts-sticks sound _ (in-list (walkOf L) law (firstSticks L) k d b)) in
     sym (number-order (L .size) (sound .whole .sized) _ _ (in-grid i (omega arith)) (in-grid j l))
     ∙ lt-ltb _ _ (first-sticks-ascend L sound i j d h l)
 

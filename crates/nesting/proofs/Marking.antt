@@ -21,9 +21,9 @@ use Rattle.contour.specs.Marking.{markEdge, horizontal, Markable}
 use Rattle.contour.specs.Cursors.{left, Placed, Opened, Moved}
 use Rattle.contour.specs.declared.cursor.Cursor.{Cursor}
 use Rattle.contour.proofs.First.{first-one}
-use Rattle.contour.proofs.Members.{on-one}
 use Rattle.contour.proofs.Orbit.{same-true, same-false}
 use Rattle.contour.proofs.Sticks.{laws, same-self}
+use Rattle.contour.proofs.Theorems.{AllSticks, contour-sticks}
 use Rattle.contour.proofs.Orders.{first-sticks-once}
 use Rattle.contour.proofs.Marking.{bits-ok, bits-kept, bits-set}
 use Rattle.contour.proofs.Scans.{Kept, marks, horizontal-number}
@@ -69,8 +69,8 @@ module _ {L : Layer} (sound : Sound L) where
     abbrev marked : List ℕ
     marked = foldl (markEdge (L .size)) s (contourOf L f)
 
-    ones : (y : Edge) → 0 < occurrences (walkOf L) y (contourOf L f) → isStick L y ≡ true
-    ones y o = on-one (walkOf L) (laws L sound) f y (first-one (walkOf L) (laws L sound) f is-first) o
+    ones : AllSticks L (contourOf L f)
+    ones = contour-sticks sound f (first-one (walkOf L) (laws L sound) f is-first)
 
     mark-ok : Kept L marked
     mark-ok = bits-ok (walkOf L) (laws L sound) horizontal (marks L sound) (contourOf L f) s ones kept

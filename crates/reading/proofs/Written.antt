@@ -23,6 +23,7 @@ use Rattle.grid.proofs.Numbers.{edgeAt-within}
 use Rattle.contour.specs.Walk.{occurrences}
 use Rattle.contour.specs.Contours.{walkOf, contourOf, firstSticks}
 use Rattle.contour.proofs.Members.{occurrences-append}
+use Rattle.contour.proofs.Theorems.{AllSticks, head-stick, tail-sticks}
 use Rattle.table.specs.Entries.{entryOf, encoded, suits, wrong, wrongAt, entriesAnswer, lengthQuestions}
 use Rattle.table.specs.Vertices.{offsetIn, entryAt}
 use Rattle.table.specs.declared.entry.Entry.{Entry}
@@ -34,7 +35,6 @@ use Rattle.held.specs.Questions.{heldQuestions}
 use Rattle.held.proofs.Asking.{accepted-of}
 use Rattle.sheet.specs.Commands.{vertexCommand, sizeCommand, contourCommand, endCommand}
 use Rattle.sheet.specs.Written.{verticesOf, contoursBytes, sheetOf}
-use Rattle.sheet.proofs.Counted.{Sticks, head-stick, tail-sticks}
 use Rattle.formed.specs.Expected.{Expected, these, vertexOf, standsAt, vertexAt, expectedContour, expectedSheet, commandsFrom, sheetAnswer}
 use Rattle.formed.specs.Asked.{widths}
 use Rattle.formed.proofs.Commands.{widths-append, command-yes, commands-length, sticksIn, sticks-append, expected-at, expected-once, expected-stick}
@@ -131,18 +131,18 @@ module _ (L : Layer) (sound : Sound L) (t : List ℕ) (exact : length t ≡ edge
 
   -- each vertex that is expected belongs to a stick
   abbrev Expects : List Expected → Type 0
-  Expects xs = Sticks L (sticksIn xs)
+  Expects xs = AllSticks L (sticksIn xs)
 
   bytes-length : (xs : List Expected) → Expects xs → length (bytesIn L t xs) ≡ widths xs
   bytes-length [] all = refl
   bytes-length (these b ∷ xs) all = omega (arith, length-append b (bytesIn L t xs), bytes-length xs all)
   bytes-length (vertexOf e ∷ xs) all =
-      let c = stick-command e (head-stick L sound e (sticksIn xs) all) in
+      let c = stick-command e (head-stick sound e (sticksIn xs) all) in
       omega (
         arith,
         length-append (vertexCommand (entryAt L t e)) (bytesIn L t xs),
         ap length (c .2 .bytes),
-        bytes-length xs (tail-sticks L sound e (sticksIn xs) all),
+        bytes-length xs (tail-sticks sound e (sticksIn xs) all),
       )
 
   -- each command stands where it is expected
@@ -155,14 +155,14 @@ module _ (L : Layer) (sound : Sound L) (t : List ℕ) (exact : length t ≡ edge
       rw (split, place) (written-stands xs (p ++ b) all) in
       rw (stands-after b p (bytesIn L t xs)) later
   written-stands (vertexOf e ∷ xs) p all =
-      let c = stick-command e (head-stick L sound e (sticksIn xs) all) in
+      let c = stick-command e (head-stick sound e (sticksIn xs) all) in
       let a = c .0 in
       let o = c .1 in
       let r = bytesIn L t xs in
       let split : p ++ (a ∷ o ∷ r) ≡ (p ++ (a ∷ o ∷ [])) ++ r = sym (append-assoc p (a ∷ o ∷ []) r) in
       let place : length p + 2 ≡ length (p ++ (a ∷ o ∷ [])) = sym (length-append p (a ∷ o ∷ [])) in
       let later : commandsFrom (p ++ (a ∷ o ∷ r)) (length p + 2) xs ≡ Yes =
-      rw (split, place) (written-stands xs (p ++ (a ∷ o ∷ [])) (tail-sticks L sound e (sticksIn xs) all)) in
+      rw (split, place) (written-stands xs (p ++ (a ∷ o ∷ [])) (tail-sticks sound e (sticksIn xs) all)) in
       let here : vertexAt (p ++ (a ∷ o ∷ r)) (length p) ≡ true =
       rw (getD-append-seam p a (o ∷ r) 0, second-after p r a o) (c .2 .whole) in
       let whole : commandsFrom (p ++ (a ∷ o ∷ r)) (length p) (vertexOf e ∷ xs) ≡ Yes = rw here later in

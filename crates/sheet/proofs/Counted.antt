@@ -1,23 +1,18 @@
 -- The length of a sheet: "Its length is 6 + 6×contours + 2×vertices."
-use mathlib.Core.Path.{_≡_, refl, ap}
+use mathlib.Core.Path.{_≡_, refl}
 use mathlib.Core.Bool.{true, false≢true}
 use mathlib.Core.List.{List, [], _∷_, map, flatten}
-use Prim.Native.Nat.{ℕ, _+_, _*_, _<_}
+use Prim.Native.Nat.{ℕ, _+_, _*_}
 use native.Mathlib.Omega.{arith}
 use lib.ListN.{length, length-append}
-use Rattle.arith.specs.Booleans.{asNumber}
 use Rattle.grid.specs.Layer.{Layer}
-use Rattle.grid.specs.Edges.{isStick}
 use Rattle.mask.specs.Counts.{stickCount}
 use Rattle.grid.specs.Questions.{Sound}
 use Rattle.grid.specs.declared.edge.Edge.{Edge}
 use Rattle.grid.specs.declared.question.Answer.the-variants.{Yes}
-use Rattle.contour.specs.Walk.{occurrences, contour}
+use Rattle.contour.specs.Walk.{contour}
 use Rattle.contour.specs.Contours.{walkOf, contourOf, firstSticks, contourCount}
-use Rattle.contour.proofs.Members.{on-one}
-use Rattle.contour.proofs.First.{first-one}
-use Rattle.contour.proofs.Sticks.{laws}
-use Rattle.contour.proofs.Theorems.{first-sticks-only, total-length}
+use Rattle.contour.proofs.Theorems.{total-length, AllSticks, head-stick, tail-sticks, contour-sticks, firsts-sticks}
 use Rattle.table.specs.Entries.{suits, entriesAnswer}
 use Rattle.table.specs.Vertices.{entryAt}
 use Rattle.table.specs.declared.entry.Entry.{Entry}
@@ -38,32 +33,20 @@ pub sheet-parts : (L : Layer) (t : List ℕ) → length (sheetOf L t) ≡ 5 + le
 unfolding sheetOf
 sheet-parts L t = omega (arith, length-append (allContours L t) endCommand)
 
--- every edge of a list is a stick
-abbrev pub Sticks : Layer → List Edge → Type 0
-Sticks L l = (y : Edge) → 0 < occurrences (walkOf L) y l → isStick L y ≡ true
-
 module _ (L : Layer) (sound : Sound L) where
-  pub head-stick : (x : Edge) (l : List Edge) → Sticks L (x ∷ l) → isStick L x ≡ true
-  unfolding occurrences
-  head-stick x l h = h x (omega (arith, ap asNumber (laws L sound .same-self x)))
-
-  pub tail-sticks : (x : Edge) (l : List Edge) → Sticks L (x ∷ l) → Sticks L l
-  unfolding occurrences
-  tail-sticks x l h y o = h y (omega arith)
-
   module _ (t : List ℕ) (yes : entriesAnswer L t ≡ Yes) where
-    vertices-length : (l : List Edge) → Sticks L l → length (verticesOf L t l) ≡ 2 * length l
+    vertices-length : (l : List Edge) → AllSticks L l → length (verticesOf L t l) ≡ 2 * length l
     unfolding verticesOf
     vertices-length [] h = refl
     vertices-length (x ∷ l) h =
         omega (
           arith,
           length-append (vertexCommand (entryAt L t x)) (verticesOf L t l),
-          two-bytes (entryAt L t x) (entry-suits L sound t yes x (head-stick x l h)),
-          vertices-length l (tail-sticks x l h),
+          two-bytes (entryAt L t x) (entry-suits L sound t yes x (head-stick sound x l h)),
+          vertices-length l (tail-sticks sound x l h),
         )
 
-    contours-length : (fs : List Edge) → Sticks L fs
+    contours-length : (fs : List Edge) → AllSticks L fs
         → length (contoursBytes L t fs) ≡ 6 * length (map (contour (walkOf L)) fs) + 2 * length (flatten (map (contour (walkOf L)) fs))
     unfolding contoursBytes
     contours-length [] h = refl
@@ -71,9 +54,9 @@ module _ (L : Layer) (sound : Sound L) where
         omega (
           arith,
           length-append (contourBytes L t f) (contoursBytes L t fs),
-          vertices-length (contourOf L f) (λ y o. on-one (walkOf L) (laws L sound) f y (head-stick f fs h) o),
+          vertices-length (contourOf L f) (contour-sticks sound f (head-stick sound f fs h)),
           length-append (contourOf L f) (flatten (map (contour (walkOf L)) fs)),
-          contours-length fs (tail-sticks f fs h),
+          contours-length fs (tail-sticks sound f fs h),
         )
 
     pub sheet-length : length (sheetOf L t) ≡ 6 + 6 * contourCount L + 2 * stickCount L
@@ -81,6 +64,6 @@ module _ (L : Layer) (sound : Sound L) where
         omega (
           arith,
           sheet-parts L t,
-          contours-length (firstSticks L) (λ y o. first-one (walkOf L) (laws L sound) y (first-sticks-only L sound y o)),
+          contours-length (firstSticks L) (firsts-sticks sound),
           total-length L sound,
         )

@@ -13,11 +13,12 @@ use Rattle.table.specs.Stores.{without}
 use Rattle.run.specs.Runs.{stickAfter, between, passes, HasSticks}
 use Rattle.run.proofs.Steps.{most-sticks}
 use Rattle.simplify.specs.Runs.{half, simplifyContour}
-use Rattle.simplify.specs.Parts.{begun, runTo, firstPart, secondPart}
+use Rattle.simplify.specs.Parts.{begun, runTo}
 use Rattle.simplify.specs.Waiting.{waitsOf}
 use Rattle.simplify.specs.declared.tries.Run.{Run}
 use Rattle.simplify.proofs.Trying.{length-inner}
-use Rattle.simplify.proofs.RunsLeft.{RunFrom, RunsLeft, left-start, left-passed, left-split, left-number, left-few, left-small}
+use Rattle.simplify.proofs.Waiting.{contour-few}
+use Rattle.simplify.proofs.RunsLeft.{firstPart, secondPart, RunFrom, RunsLeft, left-start, left-passed, left-split, next-wait, left-few, left-small}
 
 -- what stands past the end of an array of runs
 abbrev pub noRun : Run
@@ -108,10 +109,10 @@ module _ {L : Layer} {f : Edge} {n : ℕ} (contour : HasSticks L f n) where
 
       -- as many wait as the definition says
       pub top-is : top ≡ getD (waitsOf L tolerance t₀ f) tried 0
-      top-is = omega (arith, left-number contour tolerance t₀ with-top, waiting-length runs (top - 1))
+      top-is = omega (arith, next-wait contour tolerance t₀ with-top, waiting-length runs (top - 1))
 
       pub few : top ≤ 22
-      few = omega (arith, left-few contour tolerance t₀ with-top, waiting-length runs (top - 1))
+      few = omega (arith, top-is, contour-few (record { sound = contour .sound; stick = contour .stick }) tolerance t₀ tried)
 
       pub top-from : RunFrom L n e p (topRun runs top)
       top-from = with-top .runs .0

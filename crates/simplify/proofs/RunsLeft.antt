@@ -17,12 +17,22 @@ use Rattle.run.specs.Runs.{stickAfter, between, passes, HasSticks, RunLent}
 use Rattle.run.specs.Marks.{MarkedAlong, Along}
 use Rattle.run.proofs.Steps.{no-steps, steps-on, steps-rest, stick-on, once-round, most-sticks}
 use Rattle.simplify.specs.Runs.{Progress, half, oneTried, tryRun, simplifyContour}
-use Rattle.simplify.specs.Parts.{begun, runTo, firstPart, secondPart}
+use Rattle.simplify.specs.Parts.{begun, runTo}
 use Rattle.simplify.specs.Waiting.{waitsOfRun, waitsOf}
 use Rattle.simplify.specs.declared.tries.Run.{Run}
 use Rattle.simplify.proofs.Trying.{Split, split, split-of, inner-is, try-passes, try-splits, try-deep, try-bounds, contour-runs}
 use Rattle.simplify.proofs.Layers.{contour-bounds}
 use Rattle.simplify.proofs.Waiting.{waits-first, waits-passes, waits-splits, waits-deep, waits-contour, contour-few}
+
+deep : {m : ℕ} → 1 ≤ m → m ≡ suc (m - 1)
+deep some = omega arith
+
+-- the parts of a run that starts at e: "its first part having half its edges rounded down"
+abbrev pub firstPart : Layer → Edge → Run → Run
+firstPart L e r = runTo (half (r .edges)) (stickAfter L (half (r .edges)) e)
+
+abbrev pub secondPart : Run → Run
+secondPart r = runTo (r .edges - half (r .edges)) (r .end)
 
 -- Runs tried one after the other
 
@@ -76,36 +86,33 @@ module _ (L : Layer) (tolerance : ℕ) where
 
   -- a run that passes
   module _ (s : Progress) (e : Edge) (m : ℕ) (some : 1 ≤ m) (pass : passes L (s .table) tolerance e m ≡ true) where
-    deep : m ≡ suc (m - 1)
-    deep = omega arith
-
     run-passed : tryOne s e m
         ≡ record { table = foldl (without L) (s .table) (between L e m); removed = s .removed + (m - 1); tried = s .tried + 1 }
     run-passed =
-        ap (λ (d : ℕ). tryRun L tolerance d s e m) deep ∙ try-passes L tolerance (m - 1) s e m pass ∙ inner-is L (oneTried s) e m
+        ap (λ (d : ℕ). tryRun L tolerance d s e m) (deep some) ∙ try-passes L tolerance (m - 1) s e m pass ∙ inner-is L (oneTried s) e m
 
     passed-waits : (others : ℕ) → waitsOfOne s e m others ≡ suc others ∷ []
     passed-waits others =
-        ap (λ (d : ℕ). waitsOfRun L tolerance d s e m others) deep ∙ waits-passes L tolerance (m - 1) s e m others pass
+        ap (λ (d : ℕ). waitsOfRun L tolerance d s e m others) (deep some) ∙ waits-passes L tolerance (m - 1) s e m others pass
 
   -- and one that is split
   module _ (s : Progress) (e : Edge) (m : ℕ) (no-pass : passes L (s .table) tolerance e m ≡ false) where
     parts-of : Split m
     parts-of = split L (s .table) tolerance e m no-pass
 
-    deeper : m ≡ suc (m - 1)
-    deeper = omega (arith, parts-of .more)
+    some : 1 ≤ m
+    some = omega (arith, parts-of .more)
 
     run-split : tryOne s e m ≡ tryOne (tryOne (oneTried s) e (half m)) (stickAfter L (half m) e) (m - half m)
     run-split =
-        ap (λ (d : ℕ). tryRun L tolerance d s e m) deeper ∙ try-splits L tolerance (m - 1) s e m no-pass
-        ∙ sym (parts-deep (m - 1) (oneTried s) e parts-of (omega (arith, deeper)))
+        ap (λ (d : ℕ). tryRun L tolerance d s e m) (deep some) ∙ try-splits L tolerance (m - 1) s e m no-pass
+        ∙ sym (parts-deep (m - 1) (oneTried s) e parts-of (omega (arith, deep some)))
 
     split-waits : (others : ℕ) → waitsOfOne s e m others ≡ suc others ∷ (waitsOfOne (oneTried s) e (half m) (suc others)
         ++ waitsOfOne (tryOne (oneTried s) e (half m)) (stickAfter L (half m) e) (m - half m) others)
     split-waits others =
-        ap (λ (d : ℕ). waitsOfRun L tolerance d s e m others) deeper ∙ waits-splits L tolerance (m - 1) s e m others no-pass
-        ∙ ap (λ (l : List ℕ). suc others ∷ l) (sym (parts-wait (m - 1) (oneTried s) e parts-of (omega (arith, deeper)) others))
+        ap (λ (d : ℕ). waitsOfRun L tolerance d s e m others) (deep some) ∙ waits-splits L tolerance (m - 1) s e m others no-pass
+        ∙ ap (λ (l : List ℕ). suc others ∷ l) (sym (parts-wait (m - 1) (oneTried s) e parts-of (omega (arith, deep some)) others))
 
 -- What is left of a contour
 
@@ -132,12 +139,12 @@ module _ (L : Layer) (n : ℕ) where
   )
 
 module _ (L : Layer) (tolerance : ℕ) (f : Edge) (n : ℕ) (t₀ : List ℕ) where
-  -- After s the runs l wait, from e on, which is p steps on from f. `numbers`: past those of the runs tried so far, the numbers of `waitsOf` are those
-  -- of l. `gives`: trying l ends where `simplifyContour` does.
+  -- After s the runs l wait, from e on, which is p steps on from f. `waits-left`: past those of the runs tried so far, `waitsOf` has the numbers of l.
+  -- `gives`: trying l ends where `simplifyContour` does.
   pub record RunsLeft (s : Progress) (e : Edge) (p : ℕ) (l : List Run) : Type 0 where
     pub here : e ≡ stickAfter L p f
     pub runs : RunsFrom L n e p l
-    pub numbers : drop (s .tried) (waitsOf L tolerance t₀ f) ≡ waitsOfAll L tolerance s e l
+    pub waits-left : drop (s .tried) (waitsOf L tolerance t₀ f) ≡ waitsOfAll L tolerance s e l
     pub gives : tryAll L tolerance s e l ≡ simplifyContour L tolerance (begun t₀) f
 
 -- what is left of a list after one number more
@@ -176,7 +183,7 @@ module _ {L : Layer} {f : Edge} {n : ℕ} (contour : HasSticks L f n) where
         record {
           here = no-steps L f;
           runs = (from .0, (from .1, tt));
-          numbers = waits-contour L tolerance t₀ f
+          waits-left = waits-contour L tolerance t₀ f
               ∙ ap (λ (k : ℕ). waitsOfRun L tolerance k (begun t₀) f (half k) 1
               ++ waitsOfRun L tolerance k (tryRun L tolerance k (begun t₀) f (half k)) (stickAfter L (half k) f) (k - half k) 0) (sym (contour .all))
               ∙ sym (parts-wait L tolerance n (begun t₀) f whole-splits (omega arith) 0)
@@ -200,8 +207,8 @@ module _ {L : Layer} {f : Edge} {n : ℕ} (contour : HasSticks L f n) where
           record {
             here = steps-on L f p (r .edges) (now .here) (from .ends);
             runs = now .runs .1;
-            numbers = one-more (s .tried) (waitsOf L tolerance t₀ f)
-                (now .numbers ∙ (λ i. counts i ++ waitsOfAll L tolerance (is i) (r .end) l));
+            waits-left = one-more (s .tried) (waitsOf L tolerance t₀ f)
+                (now .waits-left ∙ (λ i. counts i ++ waitsOfAll L tolerance (is i) (r .end) l));
             gives = ap (λ (x : Progress). tryAll L tolerance x (r .end) l) (sym is) ∙ now .gives;
           }
 
@@ -222,26 +229,25 @@ module _ {L : Layer} {f : Edge} {n : ℕ} (contour : HasSticks L f n) where
           record {
             here = now .here;
             runs = (from .0, (from .1, rw sum at (now .runs .1)));
-            numbers = one-more (s .tried) (waitsOf L tolerance t₀ f)
-                (now .numbers ∙ (λ i. counts i ++ waitsOfAll L tolerance (is i) (r .end) l) ∙ ap (λ (w : List ℕ). suc (length l) ∷ w) in-turn);
+            waits-left = one-more (s .tried) (waitsOf L tolerance t₀ f)
+                (now .waits-left ∙ (λ i. counts i ++ waitsOfAll L tolerance (is i) (r .end) l) ∙ ap (λ (w : List ℕ). suc (length l) ∷ w) in-turn);
             gives = ap (λ (x : Progress). tryAll L tolerance x (r .end) l) (sym is) ∙ now .gives;
           }
 
       -- the next number of `waitsOf` is how many wait,
-      pub left-number : getD (waitsOf L tolerance t₀ f) (s .tried) 0 ≡ suc (length l)
-      left-number =
+      pub next-wait : getD (waitsOf L tolerance t₀ f) (s .tried) 0 ≡ suc (length l)
+      next-wait =
           let m : ℕ = r .edges in
-          let waits : List ℕ = waitsOf L tolerance t₀ f in
+          let all : List ℕ = waitsOf L tolerance t₀ f in
           let others : List ℕ = waitsOfAll L tolerance (tryOne L tolerance s e m) (r .end) l in
           let same : s .tried + 0 ≡ s .tried = omega arith in
-          let deep : m ≡ suc (m - 1) = omega (arith, now .runs .0 .some) in
-          sym (getD-drop (s .tried) waits 0 0 ∙ ap (λ (k : ℕ). getD waits k 0) same) ∙ ap (λ (w : List ℕ). getD w 0 0) (now .numbers)
-          ∙ ap (λ (d : ℕ). getD (waitsOfRun L tolerance d s e m (length l) ++ others) 0 0) deep
+          sym (getD-drop (s .tried) all 0 0 ∙ ap (λ (k : ℕ). getD all k 0) same) ∙ ap (λ (w : List ℕ). getD w 0 0) (now .waits-left)
+          ∙ ap (λ (d : ℕ). getD (waitsOfRun L tolerance d s e m (length l) ++ others) 0 0) (deep (now .runs .0 .some))
           ∙ waits-first L tolerance (m - 1) s e m (length l) others
 
       -- and so no more than 22
       pub left-few : suc (length l) ≤ 22
-      left-few = omega (arith, left-number, contour-few (record { sound = contour .sound; stick = contour .stick }) tolerance t₀ (s .tried))
+      left-few = omega (arith, next-wait, contour-few (record { sound = contour .sound; stick = contour .stick }) tolerance t₀ (s .tried))
 
     -- the counts are small, and no more runs are tried so far than in the end
     pub left-small : (s : Progress) (e : Edge) (p : ℕ) (l : List Run) → RunsLeft L tolerance f n t₀ s e p l

@@ -1,5 +1,6 @@
--- How many runs wait while a layer is simplified: never more than 22 (`few-wait`), and one number stands for each run that is tried (`each-run`). A run of fewer than 2^k edges keeps at most k waiting, itself included: its first part has fewer than 2^(k-1), and when its
--- second part is taken the first is done.
+-- How many runs wait while a layer is simplified: never more than 22 (`few-wait`), and there is a number for each run tried (`simplify-tried`). A run of
+-- fewer than 2^k edges keeps at most k waiting, itself included: its first part has fewer than 2^(k-1), and when its second part is taken the
+-- first is done.
 use mathlib.Core.Path.{_≡_, refl, sym, _∙_, ap}
 use mathlib.Core.Bool.{Bool, true, false}
 use mathlib.Core.List.{List, [], _∷_, _++_, foldl}
@@ -36,9 +37,9 @@ first-too {most} {x} {l} h r = record { each = each }
     each zero = h
     each (suc k) = r .each k
 
-both-parts : {most : ℕ} (l r : List ℕ) → AtMost most l → AtMost most r → AtMost most (l ++ r)
-both-parts [] r a b = b
-both-parts (x ∷ l) r a b = first-too (a .each 0) (both-parts l r (record { each = λ k. a .each (suc k) }) b)
+both-lists : {most : ℕ} (l r : List ℕ) → AtMost most l → AtMost most r → AtMost most (l ++ r)
+both-lists [] r a b = b
+both-lists (x ∷ l) r a b = first-too (a .each 0) (both-lists l r (record { each = λ k. a .each (suc k) }) b)
 
 module _ (L : Layer) (tolerance : ℕ) where
   by-passes : ℕ → Progress → Edge → ℕ → ℕ → Bool → List ℕ
@@ -54,7 +55,7 @@ module _ (L : Layer) (tolerance : ℕ) where
   unfolding waitsOfRun
   waits-first depth s e n others l = refl
 
-  pub waits-none : (s : Progress) (e : Edge) (n others : ℕ) → waitsOfRun L tolerance 0 s e n others ≡ []
+  waits-none : (s : Progress) (e : Edge) (n others : ℕ) → waitsOfRun L tolerance 0 s e n others ≡ []
   unfolding waitsOfRun
   waits-none s e n others = refl
 
@@ -90,7 +91,7 @@ module _ (L : Layer) (tolerance : ℕ) where
       let first = run-below depth c (oneTried s) e (half n) (suc others) (p .first-some) (omega (arith, twice)) in
       let second = run-below depth (suc c) (tryRun L tolerance depth (oneTried s) e (half n)) (stickAfter L (half n) e) (n - half n) others
       (p .second-some) (omega (arith, p .second-less)) in
-      rw (waits-splits depth s e n others f) (first-too (omega arith) (both-parts _ _ (rw sum at first) second)))
+      rw (waits-splits depth s e n others f) (first-too (omega arith) (both-lists _ _ (rw sum at first) second)))
 
   -- a contour whose two runs have fewer than 2^k edges
   contour-below : (k : ℕ) (t : List ℕ) (f : Edge) → let n : ℕ = length (contourOf L f) in 2 ≤ n → n - half n < 2 ^ k
@@ -99,28 +100,28 @@ module _ (L : Layer) (tolerance : ℕ) where
       let n : ℕ = length (contourOf L f) in
       let first = run-below n k (begun t) f (half n) 1 (omega arith) (omega arith) in
       let second = run-below n k (tryRun L tolerance n (begun t) f (half n)) (stickAfter L (half n) f) (n - half n) 0 (omega arith) small in
-      rw (waits-contour t f) (both-parts _ _ first (record { each = λ j. omega (arith, second .each j) }))
+      rw (waits-contour t f) (both-lists _ _ first (record { each = λ j. omega (arith, second .each j) }))
 
-  -- one number for each run that is tried
-  one-for-each-run : (depth : ℕ) (s : Progress) (e : Edge) (n others : ℕ)
+  -- as many numbers as runs are tried
+  run-tried : (depth : ℕ) (s : Progress) (e : Edge) (n others : ℕ)
       → tryRun L tolerance depth s e n .tried ≡ s .tried + length (waitsOfRun L tolerance depth s e n others)
-  one-for-each-run zero s e n others = rw (try-none L tolerance s e n, waits-none s e n others) (omega arith)
-  one-for-each-run (suc depth) s e n others = both-sides (passes L (s .table) tolerance e n)
+  run-tried zero s e n others = rw (try-none L tolerance s e n, waits-none s e n others) (omega arith)
+  run-tried (suc depth) s e n others = both-sides (passes L (s .table) tolerance e n)
       (λ y. rw (try-passes L tolerance depth s e n y, waits-passes depth s e n others y, inner-is L (oneTried s) e n) refl)
       (λ f.
       let m : Progress = tryRun L tolerance depth (oneTried s) e (half n) in
-      let first = one-for-each-run depth (oneTried s) e (half n) (suc others) in
-      let second = one-for-each-run depth m (stickAfter L (half n) e) (n - half n) others in
+      let first = run-tried depth (oneTried s) e (half n) (suc others) in
+      let second = run-tried depth m (stickAfter L (half n) e) (n - half n) others in
       let sum = length-append (waitsOfRun L tolerance depth (oneTried s) e (half n) (suc others))
       (waitsOfRun L tolerance depth m (stickAfter L (half n) e) (n - half n) others) in
       rw (try-splits L tolerance depth s e n f, waits-splits depth s e n others f) (omega (arith, first, second, sum)))
 
-  one-for-each : (t : List ℕ) (f : Edge) → simplifyContour L tolerance (begun t) f .tried ≡ length (waitsOf L tolerance t f)
-  one-for-each t f =
+  contour-tried : (t : List ℕ) (f : Edge) → simplifyContour L tolerance (begun t) f .tried ≡ length (waitsOf L tolerance t f)
+  contour-tried t f =
       let n : ℕ = length (contourOf L f) in
       let m : Progress = tryRun L tolerance n (begun t) f (half n) in
-      let first = one-for-each-run n (begun t) f (half n) 1 in
-      let second = one-for-each-run n m (stickAfter L (half n) f) (n - half n) 0 in
+      let first = run-tried n (begun t) f (half n) 1 in
+      let second = run-tried n m (stickAfter L (half n) f) (n - half n) 0 in
       let sum = length-append (waitsOfRun L tolerance n (begun t) f (half n) 1) (waitsOfRun L tolerance n m (stickAfter L (half n) f) (n - half n) 0) in
       rw (contour-runs L tolerance (begun t) f, waits-contour t f) (omega (arith, first, second, sum))
 
@@ -143,22 +144,22 @@ module _ (L : Layer) (tolerance : ℕ) where
 
 -- The contour of any stick of a sound layer, from any table on: 21 at the most,
 module _ {L : Layer} {f : Edge} (of : StickOf L f) (tolerance : ℕ) (t : List ℕ) where
-  contour-most : AtMost 21 (waitsOf L tolerance t f)
-  contour-most =
+  contour-21 : AtMost 21 (waitsOf L tolerance t f)
+  contour-21 =
       let contour : HasSticks L f (length (contourOf L f)) = record { sound = of .sound; stick = of .stick; all = refl } in
       let four = four-sticks L (of .sound) f (of .stick) in
       contour-below L tolerance 20 t f (omega (arith, four)) (omega (arith, most-sticks contour))
 
   pub contour-few : (k : ℕ) → getD (waitsOf L tolerance t f) k 0 ≤ 22
-  contour-few k = omega (arith, contour-most .each k)
+  contour-few k = omega (arith, contour-21 .each k)
 
--- and so over every layer.
+-- and so over every sound layer.
 module _ {L : Layer} (sound : Sound L) (tolerance : ℕ) where
   in-turn-most : (l : List Edge) → AllSticks L l → (t : List ℕ) → AtMost 21 (waitsInTurn L tolerance t l)
   unfolding waitsInTurn
   in-turn-most [] h t = none-above
   in-turn-most (f ∷ l) h t =
-      both-parts _ _ (contour-most (record { sound = sound; stick = head-stick sound f l h }) tolerance t)
+      both-lists _ _ (contour-21 (record { sound = sound; stick = head-stick sound f l h }) tolerance t)
       (in-turn-most l (tail-sticks sound f l h) (simplifyContour L tolerance (begun t) f .table))
 
   pub at-most-21 : (t : List ℕ) (k : ℕ) → getD (waits L tolerance t) k 0 ≤ 21
@@ -168,18 +169,18 @@ module _ {L : Layer} (sound : Sound L) (tolerance : ℕ) where
   pub few-wait : (t : List ℕ) (k : ℕ) → getD (waits L tolerance t) k 0 ≤ 22
   few-wait t k = omega (arith, at-most-21 t k)
 
--- There is a number for each run that is tried.
+-- There are as many numbers as runs tried.
 module _ (L : Layer) (tolerance : ℕ) where
-  in-turn-each : (l : List Edge) (s : Progress)
+  in-turn-tried : (l : List Edge) (s : Progress)
       → foldl (simplifyContour L tolerance) s l .tried ≡ s .tried + length (waitsInTurn L tolerance (s .table) l)
   unfolding waitsInTurn
-  in-turn-each [] s = omega arith
-  in-turn-each (f ∷ l) s =
+  in-turn-tried [] s = omega arith
+  in-turn-tried (f ∷ l) s =
       let r : Progress = simplifyContour L tolerance (begun (s .table)) f in
-      let first = one-for-each L tolerance (s .table) f in
-      let others = in-turn-each l (onTop s r) in
+      let first = contour-tried L tolerance (s .table) f in
+      let others = in-turn-tried l (onTop s r) in
       let sum = length-append (waitsOf L tolerance (s .table) f) (waitsInTurn L tolerance (r .table) l) in
       ap (λ (x : Progress). foldl (simplifyContour L tolerance) x l .tried) (contour-from L tolerance s f) ∙ omega (arith, first, others, sum)
 
-  pub each-run : (t : List ℕ) → simplify L tolerance t .tried ≡ length (waits L tolerance t)
-  each-run t = rw (simplify-is L tolerance t) (omega (arith, in-turn-each (firstSticks L) (begun t)))
+  pub simplify-tried : (t : List ℕ) → simplify L tolerance t .tried ≡ length (waits L tolerance t)
+  simplify-tried t = rw (simplify-is L tolerance t) (omega (arith, in-turn-tried (firstSticks L) (begun t)))

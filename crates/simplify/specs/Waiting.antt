@@ -1,6 +1,6 @@
--- "pending runs, of which never more than 22 wait at once": how many runs wait while a layer is simplified. A run waits from when it is found until it
+-- "pending runs, of which never more than 22 wait at once": how many runs wait while a layer is simplified. A run waits from when it is cut until it
 -- is taken to be tried: each of the two runs of a contour, and each part of a run that is split. The numbers stand in the order in which runs
--- are tried, one for each: how many wait before it is taken, itself included. No number is above 22 (proofs/Waiting.antt: `few-wait`).
+-- are tried, one for each: how many wait before it is taken, itself included. On a sound layer none is above 22 (proofs/Waiting.antt: `few-wait`).
 use mathlib.Core.Bool.{true, false}
 use mathlib.Core.List.{List, [], _∷_, _++_}
 use Prim.Native.Nat.{ℕ, zero, suc, _-_}

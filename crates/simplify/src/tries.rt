@@ -16,7 +16,7 @@ ghost use Rattle.simplify.specs.Parts.{begun, reached, runTo, ContourLen
 // From this many sticks on a contour gets marks, by which the middle of a run is soon found.
 const LONG_CONTOUR: usize = 4096;
 
-// Room for the runs that wait.
+// Room for the runs that wait: never more do (proofs/Waiting.antt).
 const ROOM: usize = 22;
 
 // A run that waits: how many edges it has, and the stick where it ends.
@@ -50,9 +50,9 @@ fn run_to(edges: usize, end: Edge) -> Run
     Run { edges, end }
 }
 
-// Tries the two runs of the contour of n sticks that starts at `first`, and the parts of those that do not pass. The first `top` of `runs` wait; what
-// stands after them means nothing. The last of them is taken: it starts at the stick `at`, `place` steps on from `first`, and each other one where
-// the one after it ends.
+// Tries the two runs of the contour of n sticks that starts at `first`, and the parts of those that do not pass. The first `top` of `runs` wait, at the
+// start the contour's second run and its first one; what stands after them means nothing. `runs[top - 1]` is taken next and starts at the stick `at`,
+// `place` steps on from `first`; each other one starts where the one after it ends.
 fn try_runs(
     size: Size,
     bitmap: &[u8],
@@ -65,10 +65,10 @@ fn try_runs(
     requires { ⌜ ContourLent (layerOf size (now bitmap)) (now table) first n (now marks) ⌝ }
     ensures { λ r. ⌜ reached r (now (table .exit)) ≡ simplifyContour (layerOf size (now (bitmap .entry))) t (begun (now (table .entry))) first ⌝ }
 {
-    let h = half_of(n);
-    let second_run = run_to(n - h, first);
+    let middle = half_of(n);
+    let second_run = run_to(n - middle, first);
     let mut runs: [Run; ROOM] = [second_run; ROOM];
-    runs[1] = run_to(h, stick_at(size, bitmap, marks, first, 0, h));
+    runs[1] = run_to(middle, stick_at(size, bitmap, marks, first, 0, middle));
     let mut top: usize = 2;
     let mut at = first;
     let mut place: usize = 0;

@@ -1,30 +1,27 @@
 -- How long an answer is: the number of a refusal is a byte, and a layer with sides of at most 64 has at most 8,064 grid edges. So a sheet, with
 -- 6 + 6 × contours + 2 × vertices bytes, has at most 28,230 of them, since each contour has four vertices or more.
-use mathlib.Core.Path.{_≡_, ap}
+use mathlib.Core.Path.{_≡_}
 use mathlib.Core.Bool.{true}
 use mathlib.Core.List.{List, [], _∷_, map, flatten}
-use Prim.Native.Nat.{ℕ, _-_, _*_, _≤_, _<_}
+use Prim.Native.Nat.{ℕ, _-_, _*_, _≤_}
 use native.Mathlib.Nat.{mul-le-mul}
 use native.Mathlib.Omega.{arith}
 use borrow.Author.Tests.{leb-true}
 use lib.Dec.{leb, lit≤}
 use lib.ListN.{length, length-append}
-use Rattle.arith.specs.Booleans.{asNumber}
 use Rattle.arith.proofs.Booleans.{and-split}
 use Rattle.arith.proofs.Ranges.{count-le}
 use Rattle.grid.specs.Layer.{Layer}
-use Rattle.grid.specs.Edges.{edgeCount, isStick, stickAt}
+use Rattle.grid.specs.Edges.{edgeCount, stickAt}
 use Rattle.grid.specs.Questions.{numberOf, Sized, Sound}
 use Rattle.grid.specs.declared.layer.Size.{Size}
 use Rattle.grid.specs.declared.edge.Edge.{Edge}
 use Rattle.grid.specs.declared.question.Refusal.{Refusal}
 use Rattle.grid.specs.declared.question.Refusal.the-variants as Refusal
 use Rattle.grid.specs.declared.question.Answer.the-variants.{Yes}
-use Rattle.contour.specs.Walk.{contour, occurrences}
+use Rattle.contour.specs.Walk.{contour}
 use Rattle.contour.specs.Contours.{walkOf, contourOf, firstSticks}
-use Rattle.contour.proofs.First.{first-one}
-use Rattle.contour.proofs.Sticks.{laws}
-use Rattle.contour.proofs.Theorems.{first-sticks-only, total-length}
+use Rattle.contour.proofs.Theorems.{total-length, AllSticks, head-stick, tail-sticks, firsts-sticks}
 use Rattle.table.specs.Entries.{entriesAnswer}
 use Rattle.drawn.proofs.FourKept.{four-sticks}
 use Rattle.sheet.specs.Written.{sheetOf}
@@ -81,15 +78,15 @@ edges-few size small =
 
 -- each contour has four sticks or more
 module _ (L : Layer) (sound : Sound L) where
-  contours-few : (l : List Edge) → ((y : Edge) → 0 < occurrences (walkOf L) y l → isStick L y ≡ true)
+  contours-few : (l : List Edge) → AllSticks L l
       → 4 * length (map (contour (walkOf L)) l) ≤ length (flatten (map (contour (walkOf L)) l))
-  unfolding flatten occurrences
+  unfolding flatten
   contours-few [] sticks = omega arith
   contours-few (f ∷ l) sticks =
       omega (
         arith,
-        four-sticks L sound f (sticks f (omega (arith, ap asNumber (laws L sound .same-self f)))),
-        contours-few l (λ y o. sticks y (omega arith)),
+        four-sticks L sound f (head-stick sound f l sticks),
+        contours-few l (tail-sticks sound f l sticks),
         length-append (contourOf L f) (flatten (map (contour (walkOf L)) l)),
       )
 
@@ -98,7 +95,7 @@ module _ (L : Layer) (sound : Sound L) where
       omega (
         arith,
         sheet-length L sound t suited,
-        contours-few (firstSticks L) (λ y o. first-one (walkOf L) (laws L sound) y (first-sticks-only L sound y o)),
+        contours-few (firstSticks L) (firsts-sticks sound),
         total-length L sound,
         count-le (stickAt L) (edgeCount (L .size)),
         edges-few (L .size) small,

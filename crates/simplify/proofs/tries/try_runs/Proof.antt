@@ -11,18 +11,18 @@ use Rattle.run.specs.Runs.{passes, RunLent}
 use Rattle.run.proofs.Steps.{no-steps, lent-start}
 use Rattle.simplify.specs.Runs.{simplifyContour}
 use Rattle.simplify.specs.Parts.{begun}
-use Rattle.simplify.proofs.Trying.{split}
+use Rattle.simplify.proofs.Trying.{Split, split}
 use Rattle.simplify.proofs.RunsLeft.{whole-splits, whole-from, run-lent, middle-along}
 use Rattle.simplify.proofs.Pending.{topRun, Pending, pending-start, counts-small, few, top-from, place-small, room, pending-passed, pending-split, pending-end}
 use Rattle.simplify.proofs.tries.try_runs.Statement.{statement}
 use Rattle.simplify.proofs.tries.try_runs.Tie as tie
 
 abbrev Inv-loop : tie.InvT-loop
-Inv-loop size bitmap table₀ t marks n h runs₀ top₀ at₀ place₀ removed₀ tried₀ table runs top at place removed tried =
+Inv-loop size bitmap table₀ t marks n middle runs₀ top₀ at₀ place₀ removed₀ tried₀ table runs top at place removed tried =
     Pending (layerOf size bitmap) t at₀ n table₀ runs₀ table runs top at place removed tried
 
 abbrev μ-loop : tie.MeasureT-loop
-μ-loop size bitmap table₀ t marks n h runs₀ top₀ at₀ place₀ removed₀ tried₀ table runs top at place removed tried =
+μ-loop size bitmap table₀ t marks n middle runs₀ top₀ at₀ place₀ removed₀ tried₀ table runs top at place removed tried =
     simplifyContour (layerOf size bitmap) t (begun table₀) at₀ .tried - tried
 
 -- Before the loop
@@ -109,11 +109,21 @@ failed : (c : tie.Else1 Inv-loop μ-loop) → let at-loop = taking (c .before) .
     passes (layerOf (a .size) (a .bitmap .now)) (l .table) (a .t) (l .at) (topRun (l .runs) (l .top) .edges) ≡ false
 failed c = sym (c .before .passes-run .ensures) ∙ c .if1 .left
 
+splits : (c : tie.Else1 Inv-loop μ-loop) → let l = taking (c .before) .before .loop in Split (topRun (l .runs) (l .top) .edges)
+splits c = split _ _ _ _ _ (failed c)
+
 -- there is room for both parts
-space : (c : tie.Else1 Inv-loop μ-loop) → taking (c .before) .before .loop .top - 1 + 2 ≤ 22
-space c =
+room-for-both : (c : tie.Else1 Inv-loop μ-loop) → taking (c .before) .before .loop .top - 1 + 2 ≤ 22
+room-for-both c =
     let here = taking (c .before) in
     room (start-of (here .before) .pre .contour) (here .before .loop .inv) (here .loop-test .taken) (failed c)
+
+-- where the parts are found
+abbrev halves : tie.After-run-to4 Inv-loop μ-loop → tie.After-half-of2 Inv-loop μ-loop
+halves c = c .before .before .before .before
+
+fits : (c : tie.After-run-to4 Inv-loop μ-loop) → taking (halves c .before .before) .before .loop .top - 1 + 2 ≤ 22
+fits c = room-for-both (halves c .before)
 
 stick-at-requires-2 : tie.Need-stick-at-requires-2 Inv-loop μ-loop
 stick-at-requires-2 c κs =
@@ -122,32 +132,33 @@ stick-at-requires-2 c κs =
     let given = start-of (here .before) .pre in
     let inv = here .before .loop .inv in
     middle-along (given .contour) (inv .remaining .here) (top-from (given .contour) inv (here .loop-test .taken))
-    (split _ _ _ _ _ (failed (halving .before))) (halving .half-of2 .ensures) (given .marked)
+    (splits (halving .before)) (halving .half-of2 .ensures) (given .marked)
 
 loop-again-2 : tie.Need-loop-again-2 Inv-loop μ-loop
 loop-again-2 c =
-    let finding = c .before in
-    let halving = finding .before .before .before in
+    let halving = halves c in
     let here = taking (halving .before .before) in
     pending-split (start-of (here .before) .pre .contour) (here .before .loop .inv) (here .loop-test .taken) (failed (halving .before))
-    (omega (arith, space (halving .before), sized (here .before))) (halving .half-of2 .ensures) (finding .stick-at2 .ensures) (c .run-to4 .ensures) (finding .before .run-to3 .ensures)
+    (omega (arith, fits c, sized (here .before))) (halving .half-of2 .ensures) (c .before .stick-at2 .ensures) (c .run-to4 .ensures)
+    (c .before .before .run-to3 .ensures)
 
 loop-less-2 : tie.Need-loop-less-2 Inv-loop μ-loop
 loop-less-2 c =
-    let here = taking (c .before .before .before .before .before .before) in
+    let here = taking (halves c .before .before) in
     omega (arith, counts-small (start-of (here .before) .pre .contour) (loop-again-2 c) .2)
 
 pub try-runs-spec : {M : Type 1} → statement M
 try-runs-spec =
     tie.close
-    (tie.spec Inv-loop μ-loop (λ c κs. search needs) (λ c. omega (arith, c .half-of .ensures)) (λ c κs. search needs) stick-at-requires
-    (λ c κs. search needs) (λ c. search needs) loop-holds (λ c. omega (arith, c .loop-test .taken)) (λ c. omega (arith, stored c)) stored
+    (tie.spec Inv-loop μ-loop (λ c κs. search needs)
+    (λ c. omega (arith, c .half-of .ensures, whole-splits (c .before .before .before .before .pre .contour) .first-less)) (λ c κs. search needs)
+    stick-at-requires (λ c κs. search needs) (λ c. search needs) loop-holds (λ c. omega (arith, c .loop-test .taken)) (λ c. omega (arith, stored c)) stored
     (λ c. omega (arith, counts-small (start-of (c .before .before) .pre .contour) (c .before .before .loop .inv)))
     (λ c κs. lent (c .before .before)) (λ c κs. lent-start (lent (taking (c .before .before))))
     (λ c. small (c .before .before .before .before .before) .0) (λ c. omega (arith, small (c .before .before .before .before .before)))
     (λ c. omega (arith, small (c .before .before .before .before .before .before))) loop-less loop-again (λ c κs. search needs)
-    (λ c. omega (arith, c .before .half-of2 .ensures)) (λ c κs. search needs) stick-at-requires-2 (λ c κs. search needs)
-    (λ c. omega (arith, space (c .before .before .before .before .before))) (λ c. omega (arith, space (c .before .before .before .before .before))) (λ c. omega (arith, space (c .before .before .before .before .before))) (λ c. omega (arith, space (c .before .before .before .before .before)))
-    (λ c. omega (arith, space (c .before .before .before .before .before))) (λ c. omega (arith, space (c .before .before .before .before .before)))
+    (λ c. omega (arith, c .before .half-of2 .ensures, splits (c .before .before) .first-less)) (λ c κs. search needs) stick-at-requires-2
+    (λ c κs. search needs) (λ c. omega (arith, fits c)) (λ c. omega (arith, fits c)) (λ c. omega (arith, fits c)) (λ c. omega (arith, fits c))
+    (λ c. omega (arith, fits c)) (λ c. omega (arith, fits c))
     loop-less-2 loop-again-2 (λ c. c .before .loop .inv .same-length)
     (λ c. pending-end (start-of (c .before) .pre .contour) (c .before .loop .inv) (omega (arith, c .loop-test .left))))
