@@ -1,4 +1,4 @@
--- How many runs wait while a layer is simplified: never more than 22 (`few-wait`), and there is a number for each run tried (`simplify-tried`). A run of
+-- How many runs wait while a layer is simplified: never more than 22 (`few-wait`), and there is a number for each run tried (`as-many-as-tried`). A run of
 -- fewer than 2^k edges keeps at most k waiting, itself included: its first part has fewer than 2^(k-1), and when its second part is taken the
 -- first is done.
 use mathlib.Core.Path.{_≡_, refl, sym, _∙_, ap}
@@ -103,25 +103,25 @@ module _ (L : Layer) (tolerance : ℕ) where
       rw (waits-contour t f) (both-lists _ _ first (record { each = λ j. omega (arith, second .each j) }))
 
   -- as many numbers as runs are tried
-  run-tried : (depth : ℕ) (s : Progress) (e : Edge) (n others : ℕ)
+  as-many-of-run : (depth : ℕ) (s : Progress) (e : Edge) (n others : ℕ)
       → tryRun L tolerance depth s e n .tried ≡ s .tried + length (waitsOfRun L tolerance depth s e n others)
-  run-tried zero s e n others = rw (try-none L tolerance s e n, waits-none s e n others) (omega arith)
-  run-tried (suc depth) s e n others = both-sides (passes L (s .table) tolerance e n)
+  as-many-of-run zero s e n others = rw (try-none L tolerance s e n, waits-none s e n others) (omega arith)
+  as-many-of-run (suc depth) s e n others = both-sides (passes L (s .table) tolerance e n)
       (λ y. rw (try-passes L tolerance depth s e n y, waits-passes depth s e n others y, inner-is L (oneTried s) e n) refl)
       (λ f.
       let m : Progress = tryRun L tolerance depth (oneTried s) e (half n) in
-      let first = run-tried depth (oneTried s) e (half n) (suc others) in
-      let second = run-tried depth m (stickAfter L (half n) e) (n - half n) others in
+      let first = as-many-of-run depth (oneTried s) e (half n) (suc others) in
+      let second = as-many-of-run depth m (stickAfter L (half n) e) (n - half n) others in
       let sum = length-append (waitsOfRun L tolerance depth (oneTried s) e (half n) (suc others))
       (waitsOfRun L tolerance depth m (stickAfter L (half n) e) (n - half n) others) in
       rw (try-splits L tolerance depth s e n f, waits-splits depth s e n others f) (omega (arith, first, second, sum)))
 
-  contour-tried : (t : List ℕ) (f : Edge) → simplifyContour L tolerance (begun t) f .tried ≡ length (waitsOf L tolerance t f)
-  contour-tried t f =
+  as-many-of-contour : (t : List ℕ) (f : Edge) → simplifyContour L tolerance (begun t) f .tried ≡ length (waitsOf L tolerance t f)
+  as-many-of-contour t f =
       let n : ℕ = length (contourOf L f) in
       let m : Progress = tryRun L tolerance n (begun t) f (half n) in
-      let first = run-tried n (begun t) f (half n) 1 in
-      let second = run-tried n m (stickAfter L (half n) f) (n - half n) 0 in
+      let first = as-many-of-run n (begun t) f (half n) 1 in
+      let second = as-many-of-run n m (stickAfter L (half n) f) (n - half n) 0 in
       let sum = length-append (waitsOfRun L tolerance n (begun t) f (half n) 1) (waitsOfRun L tolerance n m (stickAfter L (half n) f) (n - half n) 0) in
       rw (contour-runs L tolerance (begun t) f, waits-contour t f) (omega (arith, first, second, sum))
 
@@ -171,16 +171,16 @@ module _ {L : Layer} (sound : Sound L) (tolerance : ℕ) where
 
 -- There are as many numbers as runs tried.
 module _ (L : Layer) (tolerance : ℕ) where
-  in-turn-tried : (l : List Edge) (s : Progress)
+  as-many-in-turn : (l : List Edge) (s : Progress)
       → foldl (simplifyContour L tolerance) s l .tried ≡ s .tried + length (waitsInTurn L tolerance (s .table) l)
   unfolding waitsInTurn
-  in-turn-tried [] s = omega arith
-  in-turn-tried (f ∷ l) s =
+  as-many-in-turn [] s = omega arith
+  as-many-in-turn (f ∷ l) s =
       let r : Progress = simplifyContour L tolerance (begun (s .table)) f in
-      let first = contour-tried L tolerance (s .table) f in
-      let others = in-turn-tried l (onTop s r) in
+      let first = as-many-of-contour L tolerance (s .table) f in
+      let others = as-many-in-turn l (onTop s r) in
       let sum = length-append (waitsOf L tolerance (s .table) f) (waitsInTurn L tolerance (r .table) l) in
       ap (λ (x : Progress). foldl (simplifyContour L tolerance) x l .tried) (contour-from L tolerance s f) ∙ omega (arith, first, others, sum)
 
-  pub simplify-tried : (t : List ℕ) → simplify L tolerance t .tried ≡ length (waits L tolerance t)
-  simplify-tried t = rw (simplify-is L tolerance t) (omega (arith, in-turn-tried (firstSticks L) (begun t)))
+  pub as-many-as-tried : (t : List ℕ) → simplify L tolerance t .tried ≡ length (waits L tolerance t)
+  as-many-as-tried t = rw (simplify-is L tolerance t) (omega (arith, as-many-in-turn (firstSticks L) (begun t)))
