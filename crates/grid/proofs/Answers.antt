@@ -39,6 +39,7 @@ number-some Refusal.BeyondTolerance = omega arith
 number-some Refusal.TooFewKept = omega arith
 number-some Refusal.ShortOutput = omega arith
 number-some Refusal.SomeRemoved = omega arith
+number-some Refusal.VertexPinned = omega arith
 
 -- the lowest number that fails is the place of the no
 pub each-no : (q : Refusal) (f : ℕ → Bool) (n k : ℕ) → k < n → f k ≡ true → ((j : ℕ) → j < k → f j ≡ false) → No q k ≡ askEach q f n

@@ -13,7 +13,7 @@ use Rattle.grid.specs.declared.question.Refusal.the-variants as Refusal
 use Rattle.grid.specs.declared.question.Answer.{Answer}
 use Rattle.grid.specs.declared.question.Answer.the-variants.{Yes, No}
 
--- the numbers of the list 'Questions put to a call'
+-- the numbers of the list 'Questions put to a call', and "16, a slide or removal of a pinned vertex" (Note 5)
 abbrev pub numberOf : Refusal → ℕ
 numberOf Refusal.BadSides = 1
 numberOf Refusal.BitmapLength = 2
@@ -30,6 +30,7 @@ numberOf Refusal.BeyondTolerance = 12
 numberOf Refusal.TooFewKept = 13
 numberOf Refusal.ShortOutput = 14
 numberOf Refusal.SomeRemoved = 15
+numberOf Refusal.VertexPinned = 16
 
 -- "In this order, those that apply; the first no gives the number, and with it a place."
 abbrev pub firstNo : List Answer → Answer

@@ -27,6 +27,7 @@ pub enum Refusal {
     TooFewKept,
     ShortOutput,
     SomeRemoved,
+    VertexPinned,
 }
 
 // Yes, or the question that was answered no and the place that goes with it.
@@ -55,6 +56,7 @@ pub fn refusal_number(q: Refusal) -> u32
         Refusal::TooFewKept => 13,
         Refusal::ShortOutput => 14,
         Refusal::SomeRemoved => 15,
+        Refusal::VertexPinned => 16,
     }
 }
 

@@ -7,5 +7,6 @@ pub mod Suits
 pub mod Entries
 pub mod AllKept
 pub mod Stores
+pub mod Pins
 pub mod Local
 pub mod Lent

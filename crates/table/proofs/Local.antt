@@ -23,7 +23,7 @@ use Rattle.contour.proofs.First.{first-one}
 use Rattle.contour.proofs.Sticks.{laws, stick-in}
 use Rattle.contour.proofs.Theorems.{on-no-other}
 use Rattle.table.specs.Entries.{entryOf}
-use Rattle.table.specs.Vertices.{offsetIn, offsetAt}
+use Rattle.table.specs.Vertices.{isPinned, offsetIn, pinnedAt, offsetAt}
 
 -- the number that stands for an edge
 abbrev pub entry : Layer → List ℕ → Edge → ℕ
@@ -48,6 +48,10 @@ pub record Local (L : Layer) (f : Edge) (step : List ℕ → List ℕ) : Type 0 
 pub same-offset : (L : Layer) (f : Edge) {t u : List ℕ} → Agree L f t u → (e : Edge) → OnContour (walkOf L) f e → offsetAt L t e ≡ offsetAt L u e
 unfolding offsetAt
 same-offset L f a e on = ap (λ (n : ℕ). offsetIn (entryOf n)) (a .same-entry e on)
+
+pub same-pin : (L : Layer) (f : Edge) {t u : List ℕ} → Agree L f t u → (e : Edge) → OnContour (walkOf L) f e → pinnedAt L t e ≡ pinnedAt L u e
+unfolding pinnedAt
+same-pin L f a e on = ap (λ (n : ℕ). isPinned (entryOf n)) (a .same-entry e on)
 
 module _ (L : Layer) (sound : Sound L) where
   -- the same number stored at a stick of the contour

@@ -11,28 +11,32 @@ use Rattle.grid.specs.declared.layer.Size.{Size}
 use Rattle.grid.specs.declared.question.Refusal.the-variants as Refusal
 use Rattle.grid.specs.declared.question.Answer.{Answer}
 use Rattle.table.specs.declared.entry.Entry.{Entry}
-use Rattle.table.specs.declared.entry.Entry.the-variants.{Nothing, Kept, Removed, Wrong}
+use Rattle.table.specs.declared.entry.Entry.the-variants.{Nothing, Kept, Removed, Pinned, Wrong}
 
--- "0 for no stick, 1 to 255 for a kept vertex at that offset, 256 plus the offset for a removed vertex with the offset it last had"
+-- "0 for no stick, 1 to 255 for a kept vertex at that offset, 256 plus the offset for a removed vertex with the offset it last had", and
+-- "512 plus offset is a kept and pinned vertex" (Note 5)
 unfoldable pub entryOf : ℕ → Entry
 entryOf n =
     cond (eqb n 0) Nothing
     (cond (leb n 255) (Kept n)
     (cond (leb 257 n && leb n 511) (Removed (n - 256))
-    Wrong))
+    (cond (leb 513 n && leb n 767) (Pinned (n - 512))
+    Wrong)))
 
 -- the number of an entry, the other way round; that of a wrong one is 256, which no entry may have. A vertex has an offset of 1 to 255.
 abbrev pub encoded : Entry → ℕ
 encoded Nothing = 0
 encoded (Kept offset) = offset
 encoded (Removed offset) = 256 + offset
+encoded (Pinned offset) = 512 + offset
 encoded Wrong = 256
 
--- "0 off sticks, and 1 to 255 or 257 to 511 on them"
+-- "0 off sticks, and 1 to 255 or 257 to 511 on them"; it "admits 513 to 767 too" (Note 5)
 abbrev pub suits : Bool → Entry → Bool
 suits stick Nothing = not stick
 suits stick (Kept offset) = stick
 suits stick (Removed offset) = stick
+suits stick (Pinned offset) = stick
 suits stick Wrong = false
 
 -- "5. Is the table's length (W-1)×H + W×(H-1)? (0)", of a table of n entries
@@ -43,7 +47,7 @@ tableLengthAnswer size n = ask Refusal.TableLength (eqb n (edgeCount size))
 abbrev pub lengthQuestions : Layer → ℕ → List Answer
 lengthQuestions L n = layerQuestions L ++ (tableLengthAnswer (L .size) n ∷ [])
 
--- "6. Is each entry 0 off sticks, and 1 to 255 or 257 to 511 on them? (lowest entry)"
+-- "6. Is each entry 0 off sticks, and 1 to 255 or 257 to 511 on them? (lowest entry)", and with Note 5 "513 to 767 too"
 abbrev pub wrong : Bool → ℕ → Bool
 wrong stick n = not (suits stick (entryOf n))
 
