@@ -27,16 +27,15 @@ use Rattle.contour.proofs.Contours.{walked-one}
 use Rattle.contour.proofs.Sticks.{laws}
 use Rattle.contour.proofs.Theorems.{AllSticks, head-stick, tail-sticks, contour-sticks, firsts-sticks}
 use Rattle.chord.specs.Points.{Position, Point, Meets, slide}
-use Rattle.chord.specs.Crossing.{base, distance, off, along, meeting}
+use Rattle.chord.specs.Crossing.{base, off, along, meeting}
 use Rattle.table.specs.Vertices.{offsetAt}
-use Rattle.table.specs.Stores.{slid}
 use Rattle.table.proofs.AllKept.{AllKept}
 use Rattle.drawn.specs.Drawn.{vertex}
 use Rattle.offset.specs.Offset.{unrounded, spread, shift, signedBy, offsetBy, newOffset, Around}
 use Rattle.offset.proofs.Rounding.{unrounded-scaled, rounded-upward}
 use Rattle.offset.proofs.Meeting.{spread-is, shift-is, meets-at}
 use Rattle.offset.proofs.Offsets.{spread-some}
-use Rattle.smooth.specs.Smooth.{smoothedAt, Pass, passed, visit, passContour, contourPass, Smoothed, unsmoothed, settle, smoothContour, noContour, withContour, inTurn, smooth}
+use Rattle.smooth.specs.Smooth.{smoothedAt, Pass, passed, stepTo, visit, passContour, contourPass, Smoothed, unsmoothed, settle, smoothContour, noContour, withContour, inTurn, smooth}
 use Rattle.smooth.specs.Call.{smoothOf}
 use Rattle.smooth.specs.Former.{roundedUp, upwardAt, upwardVisit, formerPass, former, upwardContour, upwardSmooth, upwardOf}
 use Rattle.smooth.proofs.Neighbours.{OnSide}
@@ -131,9 +130,7 @@ module _ {L : Layer} (sound : Sound L) where
 
   upward-visit : (s : Pass) → AllKept L (s .table) → (e : Edge) → isStick L e ≡ true → upwardVisit L s e ≡ visit L s e
   unfolding upwardVisit visit
-  upward-visit s kept e stick =
-      let t = s .table in
-      ap (λ (new : ℕ). passed (slid L t e new) (s .total + distance (offsetAt L t e) new)) (upward-step kept e stick)
+  upward-visit s kept e stick = ap (stepTo L s e) (upward-step kept e stick)
 
   -- ---- a pass over any sticks: a contour's, or those of all contours
 

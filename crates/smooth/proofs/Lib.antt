@@ -12,6 +12,7 @@ pub mod Walking
 pub mod Rounds
 pub mod Limits
 pub mod Held
+pub mod Pins
 pub mod Halves
 pub mod Single
 pub mod Examples

@@ -19,7 +19,8 @@ use Rattle.contour.specs.Contours.{walkOf, contourOf}
 use Rattle.contour.proofs.Members.{on-next, on-prev}
 use Rattle.contour.proofs.First.{first-one}
 use Rattle.contour.proofs.Sticks.{laws}
-use Rattle.table.proofs.Local.{entry, Agree, Off, Local, same-offset, stored-agree, off-other}
+use Rattle.table.specs.Vertices.{pinnedAt}
+use Rattle.table.proofs.Local.{entry, Agree, Off, Local, same-offset, same-pin, stored-agree, off-other}
 use Rattle.smooth.specs.Smooth.{
   smoothedAt,
   Pass,
@@ -34,7 +35,7 @@ use Rattle.smooth.specs.Smooth.{
   unsmoothed,
   smoothContour,
 }
-use Rattle.smooth.proofs.Steps.{visit-table, visit-sum, visit-elsewhere, visit-length}
+use Rattle.smooth.proofs.Steps.{visit-skips, visit-slides, visit-elsewhere, visit-length}
 use Rattle.smooth.proofs.Passes.{contour-is, further-is, until-none, until-settled, until-more, until-keeps}
 
 -- two results of smoothing that differ in their tables at most
@@ -73,11 +74,17 @@ module _ (L : Layer) (sound : Sound L) where
 
     -- a step at a stick of the contour
     module _ (s r : Pass) (a : Agree L f (s .table) (r .table)) (e : Edge) (on : OnContour (walkOf L) f e) where
-      visit-agree : Agree L f (visit L s e .table) (visit L r e .table)
-      visit-agree = rw (visit-table L s e, visit-table L r e) (stored-agree L sound f stick a e on _ _ (same-smoothed a e on))
-
-      visit-change : visit L s e .total + r .total ≡ visit L r e .total + s .total
-      visit-change = omega (arith, visit-sum L s e, visit-sum L r e, same-offset L f a e on, same-smoothed a e on)
+      visit-agree : Agree L f (visit L s e .table) (visit L r e .table) × (visit L s e .total + r .total ≡ visit L r e .total + s .total)
+      visit-agree =
+          let same = same-pin L f a e on in
+          both-sides (pinnedAt L (s .table) e)
+          (λ pin. rw (visit-skips L s e pin, visit-skips L r e (sym same ∙ pin)) (a, omega arith))
+          (λ free.
+          rw (visit-slides L s e free, visit-slides L r e (sym same ∙ free))
+          (
+            stored-agree L sound f stick a e on _ _ (same-smoothed a e on),
+            omega (arith, same-offset L f a e on, same-smoothed a e on),
+          ))
 
     -- a pass over the contour, or a part of it: from tables that agree on the contour it gives tables that do, by the same changes
     passContour-agree : (c : List Edge) → ((e : Edge) → 0 < occurrences (walkOf L) e c → OnContour (walkOf L) f e) → (s r : Pass)
@@ -87,8 +94,9 @@ module _ (L : Layer) (sound : Sound L) where
     passContour-agree [] h s r a = (a, omega arith)
     passContour-agree (e ∷ c) h s r a =
         let on = h e (omega (arith, ap asNumber (laws L sound .same-self e))) in
-        let later = passContour-agree c (λ g o. h g (omega arith)) (visit L s e) (visit L r e) (visit-agree s r a e on) in
-        (later .0, omega (arith, later .1, visit-change s r a e on))
+        let here = visit-agree s r a e on in
+        let later = passContour-agree c (λ g o. h g (omega arith)) (visit L s e) (visit L r e) (here .0) in
+        (later .0, omega (arith, later .1, here .1))
 
     -- ---- the smoothing of the contour: as many passes as it takes
 

@@ -1,13 +1,14 @@
 -- The step at one stick of a sound layer whose vertices are all kept: the segment between the neighbours meets the closed stick at a v of 0 to
--- 256, the new offset is 1 to 255, and nothing else changes.
-use mathlib.Core.Path.{_≡_, refl, ap}
+-- 256, the new offset is 1 to 255, and nothing else changes; a pinned vertex is skipped.
+use mathlib.Core.Path.{_≡_, refl, sym, subst, ap}
 use mathlib.Core.Logic.{_≢_}
-use mathlib.Core.Bool.{true, not}
+use mathlib.Core.Bool.{Bool, true, false, cond, not}
 use mathlib.Core.List.{List}
 use Prim.Native.Nat.{ℕ, _+_, _*_, _≤_}
 use native.Mathlib.Omega.{arith}
 use lib.IntN.{pos}
 use lib.ListN.{length, getD}
+use Rattle.arith.proofs.Booleans.{both-sides}
 use Rattle.grid.specs.Layer.{Layer}
 use Rattle.grid.specs.Edges.{number, isStick}
 use Rattle.grid.specs.Questions.{Sound}
@@ -16,37 +17,63 @@ use Rattle.step.specs.Walk.{upward, next, prev}
 use Rattle.step.proofs.Walks.{next-stick, prev-stick}
 use Rattle.chord.specs.Points.{Position, Point, Meets, slide}
 use Rattle.chord.specs.Crossing.{base, distance, meeting, total}
-use Rattle.table.specs.Vertices.{offsetIn, offsetAt}
+use Rattle.table.specs.Vertices.{offsetIn, pinnedAt, offsetAt}
 use Rattle.table.specs.Stores.{slid}
+use Rattle.table.specs.Pins.{PinsStay}
 use Rattle.table.specs.declared.entry.Entry.the-variants.{Kept}
 use Rattle.table.proofs.Entries.{Inside}
 use Rattle.table.proofs.AllKept.{AllKept, offset-inside}
 use Rattle.table.proofs.Stores.{store-elsewhere, store-length, store-here, store-all-kept}
+use Rattle.table.proofs.Pins.{pins-same, store-pins}
 use Rattle.drawn.specs.Drawn.{vertex}
 use Rattle.offset.specs.Offset.{rounded, Around}
-use Rattle.smooth.specs.Smooth.{smoothedAt, Pass, visit}
+use Rattle.smooth.specs.Smooth.{smoothedAt, Pass, passed, visit}
 use Rattle.offset.proofs.Meeting.{meeting-inside, meets}
 use Rattle.smooth.proofs.Neighbours.{Beside, next-beside, prev-beside, beside-apart}
 use Rattle.offset.proofs.Offsets.{new-at, new-inside}
 
--- what a step does
+-- what a step does: a pinned vertex is skipped, any other is slid
 module _ (L : Layer) (s : Pass) (e : Edge) where
-  pub visit-table : visit L s e .table ≡ slid L (s .table) e (smoothedAt L (s .table) e)
-  unfolding visit
-  visit-table = refl
+  abbrev pub slidTo : Pass
+  slidTo =
+      let new : ℕ = smoothedAt L (s .table) e in
+      passed (slid L (s .table) e new) (s .total + distance (offsetAt L (s .table) e) new)
 
-  pub visit-sum : visit L s e .total ≡ s .total + distance (offsetAt L (s .table) e) (smoothedAt L (s .table) e)
+  pub visit-skips : pinnedAt L (s .table) e ≡ true → visit L s e ≡ s
   unfolding visit
-  visit-sum = refl
+  visit-skips pin = ap (λ (b : Bool). cond b s slidTo) pin
+
+  pub visit-slides : pinnedAt L (s .table) e ≡ false → visit L s e ≡ slidTo
+  unfolding visit
+  visit-slides free = ap (λ (b : Bool). cond b s slidTo) free
+
+  -- so what holds of what is left in either case holds of the step
+  visit-either : (P : Pass → Type 0) → P s → P slidTo → P (visit L s e)
+  visit-either P skipped moved = both-sides (pinnedAt L (s .table) e)
+      (λ pin. subst P (sym (visit-skips pin)) skipped)
+      (λ free. subst P (sym (visit-slides free)) moved)
+
+  -- a total only grows
+  pub visit-more : s .total ≤ visit L s e .total
+  visit-more = visit-either (λ r. s .total ≤ r .total) (omega arith) (omega arith)
 
   -- it changes no other entry
   pub visit-elsewhere : (k : ℕ) → k ≢ number (L .size) e → getD (visit L s e .table) k 0 ≡ getD (s .table) k 0
-  unfolding visit
-  visit-elsewhere = store-elsewhere L (s .table) e (Kept (smoothedAt L (s .table) e))
+  visit-elsewhere k other =
+      visit-either (λ r. getD (r .table) k 0 ≡ getD (s .table) k 0) refl
+      (store-elsewhere L (s .table) e (Kept (smoothedAt L (s .table) e)) k other)
 
   pub visit-length : length (visit L s e .table) ≡ length (s .table)
-  unfolding visit
-  visit-length = store-length L (s .table) e (Kept (smoothedAt L (s .table) e))
+  visit-length =
+      visit-either (λ r. length (r .table) ≡ length (s .table)) refl (store-length L (s .table) e (Kept (smoothedAt L (s .table) e)))
+
+  -- and no pinned one
+  pub visit-pins : PinsStay (s .table) (visit L s e .table)
+  visit-pins = both-sides (pinnedAt L (s .table) e)
+      (λ pin. subst (λ (r : Pass). PinsStay (s .table) (r .table)) (sym (visit-skips pin)) pins-same)
+      (λ free.
+      subst (λ (r : Pass). PinsStay (s .table) (r .table)) (sym (visit-slides free))
+      (store-pins L (s .table) e (Kept (smoothedAt L (s .table) e)) free))
 
 module _ {L : Layer} (sound : Sound L) where
   -- the neighbours of a stick in a table whose vertices are all kept
@@ -98,18 +125,21 @@ module _ {L : Layer} (sound : Sound L) where
   -- ---- a step
 
   module _ (s : Pass) (kept : AllKept L (s .table)) (e : Edge) (stick : isStick L e ≡ true) where
-    -- the stick's vertex is kept at its new offset, and all others as before
-    pub visit-here : offsetAt L (visit L s e .table) e ≡ smoothedAt L (s .table) e
-    unfolding visit offsetAt
-    visit-here =
+    -- a vertex that is slid lies at its new offset
+    pub slid-here : offsetAt L (slidTo L s e .table) e ≡ smoothedAt L (s .table) e
+    unfolding offsetAt
+    slid-here =
         ap offsetIn
         (store-here L sound (s .table) (kept .whole) e stick (Kept (smoothedAt L (s .table) e)) (smoothed-inside kept e stick))
 
+    -- every vertex is kept, as before
     pub visit-kept : AllKept L (visit L s e .table)
-    unfolding visit
     visit-kept =
-        store-all-kept L sound (s .table) (kept .whole) e stick (Kept (smoothedAt L (s .table) e)) (smoothed-inside kept e stick) refl kept
+        visit-either L s e (λ r. AllKept L (r .table)) kept
+        (store-all-kept L sound (s .table) (kept .whole) e stick (Kept (smoothedAt L (s .table) e)) (smoothed-inside kept e stick) refl kept)
 
     -- the change is at most 254
     pub visit-total : visit L s e .total ≤ s .total + 254
-    visit-total = omega (arith, visit-sum L s e, offset-inside L (s .table) kept e stick, smoothed-inside kept e stick)
+    visit-total =
+        visit-either L s e (λ r. r .total ≤ s .total + 254) (omega arith)
+        (omega (arith, offset-inside L (s .table) kept e stick, smoothed-inside kept e stick))

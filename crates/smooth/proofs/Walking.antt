@@ -2,7 +2,7 @@
 -- gives at a turn, and the next turn's. `NextVertex` is what the code finds of the next vertex before it takes the step.
 use mathlib.Core.Path.{_≡_, refl, sym, _∙_, ap, subst}
 use mathlib.Core.Logic.{_≢_}
-use mathlib.Core.Bool.{true, false}
+use mathlib.Core.Bool.{Bool, true, false, cond}
 use mathlib.Core.List.{List, [], _∷_, foldl}
 use Prim.Native.Nat.{ℕ, _+_, _≤_, _<_}
 use native.Mathlib.Omega.{arith}
@@ -23,7 +23,7 @@ use Rattle.chord.specs.Points.{Position, position}
 use Rattle.chord.specs.Crossing.{distance}
 use Rattle.chord.specs.Runs.{Near, NearEdge}
 use Rattle.table.specs.Entries.{entryOf, encoded, suits}
-use Rattle.table.specs.Vertices.{entryAt, offsetAt}
+use Rattle.table.specs.Vertices.{entryAt, pinnedAt, offsetAt}
 use Rattle.table.specs.Lent.{LentAt}
 use Rattle.table.specs.declared.entry.Entry.the-variants.{Kept}
 use Rattle.table.proofs.Entries.{kept-suits}
@@ -33,9 +33,9 @@ use Rattle.drawn.specs.Drawn.{vertex}
 use Rattle.drawn.proofs.Runs.{in-grid-near}
 use Rattle.offset.specs.Offset.{newOffset}
 use Rattle.smooth.specs.Smooth.{smoothedAt, Pass, passed, visit, passContour, contourPass, Smoothable}
-use Rattle.smooth.specs.Visit.{offsetOf, Visitable, Visited, PassMade}
+use Rattle.smooth.specs.Visit.{offsetOf, pinIn, Visitable, Visited, PassMade}
 use Rattle.smooth.specs.declared.pass.Stepped.{Stepped}
-use Rattle.smooth.proofs.Steps.{visit-sum, visit-kept, visit-here, neighbours-around}
+use Rattle.smooth.proofs.Steps.{visit-skips, visit-slides, visit-more, visit-kept, slid-here, neighbours-around}
 
 pub smoothable-kept : {L : Layer} {t : List ℕ} → Smoothable L t → AllKept L t
 smoothable-kept {L} {t} given = all-kept-of L t (given .sound) (given .exact) (given .entries) (given .all-kept)
@@ -63,6 +63,10 @@ module _ {L : Layer} {t : List ℕ} {e : Edge} (given : LentAt L t e) where
     unfolding offsetAt
     offset-is = ap (offsetOf t) k-is
 
+    pin-is : pinIn t k ≡ pinnedAt L t e
+    unfolding pinnedAt
+    pin-is = ap (pinIn t) k-is
+
 -- sticks are told apart by their numbers
 module _ (L : Layer) (sound : Sound L) (x f : Edge) (one : isStick L x ≡ true) (other : isStick L f ≡ true) where
   same-number : number (L .size) x ≡ number (L .size) f → sameEdge x f ≡ true
@@ -76,11 +80,28 @@ module _ (L : Layer) (sound : Sound L) (x f : Edge) (one : isStick L x ≡ true)
 -- a total only grows
 visits-grow : (L : Layer) (c : List Edge) (s : Pass) → s .total ≤ foldl (visit L) s c .total
 visits-grow L [] s = omega arith
-visits-grow L (e ∷ c) s = omega (arith, visits-grow L c (visit L s e), visit-sum L s e)
+visits-grow L (e ∷ c) s = omega (arith, visits-grow L c (visit L s e), visit-more L s e)
 
 visit-grows : (L : Layer) (f e : Edge) (s : Pass) → visit L s e .total ≤ foldl (visit L) s (rest (walkOf L) e f) .total
 unfolding rest
 visit-grows L f e s = visits-grow L (path (walkOf L) (edgeCount (L .size)) (next L e) f) (visit L s e)
+
+-- the step as the code takes it: a pinned vertex is skipped, any other is slid
+module _ {t : List ℕ} {k : ℕ} {p q : Position} {e : Edge} where
+  pub visited-skips : {o : ℕ} → pinIn t k ≡ true → o ≡ offsetOf t k → Visited t k p q e (record { offset = o; change = 0 }) t
+  visited-skips {o} pin old = record {
+    offset = old ∙ sym (ap (λ (b : Bool). cond b (offsetOf t k) (newOffset p q e (offsetOf t k))) pin);
+    change = omega (arith, old);
+    table = sym (ap (λ (b : Bool). cond b t (set t k (encoded (Kept o)))) pin);
+  }
+
+  pub visited-slides : {o n : ℕ} {t′ : List ℕ} → pinIn t k ≡ false → o ≡ newOffset p q e (offsetOf t k) → n ≡ distance (offsetOf t k) o
+      → t′ ≡ set t k (encoded (Kept o)) → Visited t k p q e (record { offset = o; change = n }) t′
+  visited-slides {o} free new change stored = record {
+    offset = new ∙ sym (ap (λ (b : Bool). cond b (offsetOf t k) (newOffset p q e (offsetOf t k))) free);
+    change = change;
+    table = stored ∙ sym (ap (λ (b : Bool). cond b t (set t k (encoded (Kept o)))) free);
+  }
 
 -- what the code finds before the step at e: the next stick, the place of its entry, and its vertex
 pub record NextVertex (L : Layer) (t : List ℕ) (e e′ : Edge) (k′ : ℕ) (q : Position) : Type 0 where
@@ -158,25 +179,47 @@ module _ {L : Layer} (sound : Sound L) {f e : Edge} {t₀ t : List ℕ} {k n v :
 
     -- the step is that of the rule
     module _ {r : Stepped} {t′ : List ℕ} (step : Visited t k p q e r t′) where
-      smoothed : r .offset ≡ smoothedAt L t e
-      smoothed = step .offset ∙ (λ i. newOffset (g .p-is i) (next-is i) e (old-is i))
+      -- of a pinned vertex, which it skips
+      module _ (pin : pinnedAt L t e ≡ true) where
+        as-found : t′ ≡ t
+        as-found = rw (pin-is visits-here (g .place-is) ∙ pin) at (step .table)
+
+        same-offset : r .offset ≡ offsetOf t k
+        same-offset = rw (pin-is visits-here (g .place-is) ∙ pin) at (step .offset)
+
+        skips : passed t′ (n + r .change) ≡ visit L (passed t n) e
+        skips =
+            let none : n + r .change ≡ n = omega (arith, step .change, same-offset) in
+            (λ i. passed (as-found i) (none i)) ∙ sym (visit-skips L (passed t n) e pin)
+
+      -- and of any other, which it slides
+      module _ (free : pinnedAt L t e ≡ false) where
+        smoothed : r .offset ≡ smoothedAt L t e
+        smoothed =
+            let new : r .offset ≡ newOffset p q e (offsetOf t k) = rw (pin-is visits-here (g .place-is) ∙ free) at (step .offset) in
+            new ∙ (λ i. newOffset (g .p-is i) (next-is i) e (old-is i))
+
+        slides : passed t′ (n + r .change) ≡ visit L (passed t n) e
+        slides =
+            let stored : t′ ≡ set t k (encoded (Kept (r .offset))) = rw (pin-is visits-here (g .place-is) ∙ free) at (step .table) in
+            let slid = stored ∙ (λ i. set t (g .place-is i) (encoded (Kept (smoothed i)))) in
+            let change = step .change ∙ (λ i. distance (old-is i) (smoothed i)) in
+            (λ i. passed (slid i) (n + change i)) ∙ sym (visit-slides L (passed t n) e free)
 
       step-is : passed t′ (n + r .change) ≡ visit L (passed t n) e
-      unfolding visit
-      step-is =
-          let slid = step .table ∙ (λ i. set t (g .place-is i) (encoded (Kept (smoothed i)))) in
-          let change = step .change ∙ (λ i. distance (old-is i) (smoothed i)) in
-          λ i. passed (slid i) (n + change i)
+      step-is = both-sides (pinnedAt L t e) skips slides
 
       pub visited-kept : AllKept L t′
       visited-kept =
           subst (λ (s : Pass). AllKept L (s .table)) (sym step-is) (visit-kept sound (passed t n) (g .kept) e (visits-here .stick))
 
-      -- the new offset is in the table
+      -- the offset after the step is in the table
       new-there : r .offset ≡ offsetAt L t′ e
-      new-there =
-          smoothed ∙ sym (visit-here sound (passed t n) (g .kept) e (visits-here .stick))
-          ∙ sym (ap (λ (s : Pass). offsetAt L (s .table) e) step-is)
+      new-there = both-sides (pinnedAt L t e)
+          (λ pin. same-offset pin ∙ old-is ∙ sym (ap (λ (u : List ℕ). offsetAt L u e) (as-found pin)))
+          (λ free.
+          smoothed free ∙ sym (slid-here sound (passed t n) (g .kept) e (visits-here .stick))
+          ∙ sym (ap (λ (s : Pass). offsetAt L (s .table) e) (step-is ∙ visit-slides L (passed t n) e free)))
 
       pub total-within : n + r .change ≤ contourPass L f t₀ .total
       total-within =

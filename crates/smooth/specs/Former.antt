@@ -1,9 +1,9 @@
--- The rule that Notes 2 and 3 replace. `formerOf` is Smooth as the paper has it: "a half upward", and settled by the total "taken over the
--- layer". On a layer with one contour, or none, it gives the answer and the table of Smooth, whatever is lent (proofs/Single.antt).
+-- The rule that Notes 2 and 3 replace, with Note 5's pins, which the paper has not. `formerOf` is Smooth as the paper has it: "a half upward",
+-- and settled by the total "taken over the layer". On a layer with one contour, or none, it gives the answer and the table of Smooth, whatever is lent (proofs/Single.antt).
 -- `upwardOf` never was the rule: it is Smooth, settled contour by contour, with nothing but the half as in the paper. No layer, limit or table tells
 -- it from Smooth (proofs/Halves.antt).
 use mathlib.Core.List.{List, foldl}
-use Prim.Native.Nat.{ℕ, _+_, _*_}
+use Prim.Native.Nat.{ℕ, _*_}
 use lib.IntN.{ℤ}
 use lib.ListN.{length}
 use Rattle.arith.specs.Nearest.{nearestUp}
@@ -12,12 +12,10 @@ use Rattle.grid.specs.declared.edge.Edge.{Edge}
 use Rattle.mask.specs.Counts.{stickCount}
 use Rattle.step.specs.Walk.{next, prev}
 use Rattle.contour.specs.Contours.{contourOf, firstSticks, contoursOf}
-use Rattle.chord.specs.Crossing.{distance}
 use Rattle.table.specs.Vertices.{offsetAt}
-use Rattle.table.specs.Stores.{slid}
 use Rattle.drawn.specs.Drawn.{vertex}
 use Rattle.offset.specs.Offset.{unrounded, offsetBy}
-use Rattle.smooth.specs.Smooth.{Pass, passed, Smoothed, until, settle, inTurn}
+use Rattle.smooth.specs.Smooth.{Pass, passed, stepTo, Smoothed, until, settle, inTurn}
 use Rattle.smooth.specs.Call.{Outcome, asked}
 
 -- "rounded once to the nearest whole number, a half upward"
@@ -30,11 +28,8 @@ abbrev pub upwardAt : Layer → List ℕ → Edge → ℕ
 upwardAt L t e = offsetBy roundedUp (vertex L t (prev L e)) (vertex L t (next L e)) e (offsetAt L t e)
 
 unfoldable pub upwardVisit : Layer → Pass → Edge → Pass
-unfolding roundedUp
-upwardVisit L s e =
-    let old : ℕ = offsetAt L (s .table) e in
-    let new : ℕ = upwardAt L (s .table) e in
-    passed (slid L (s .table) e new) (s .total + distance old new)
+unfolding stepTo roundedUp
+upwardVisit L s e = stepTo L s e (upwardAt L (s .table) e)
 
 -- ---- a half upward, and settled over the layer
 

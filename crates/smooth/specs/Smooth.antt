@@ -2,7 +2,7 @@
 -- each contour of the layer in turn.
 -- Every definition computes: a test that runs `smooth` says `unfolding smooth`, which opens all of this crate's that it is made of.
 use mathlib.Core.Path.{_≡_}
-use mathlib.Core.Bool.{Bool, true, false, _&&_}
+use mathlib.Core.Bool.{Bool, true, false, cond, _&&_}
 use mathlib.Core.List.{List, foldl}
 use Prim.Native.Nat.{ℕ, zero, suc, _+_, _*_, max}
 use lib.Dec.{eqb, ltb}
@@ -17,7 +17,7 @@ use Rattle.contour.specs.Contours.{contourOf, firstSticks}
 use Rattle.chord.specs.Crossing.{distance}
 use Rattle.table.specs.Entries.{entriesAnswer}
 use Rattle.table.specs.Kept.{allKeptAnswer}
-use Rattle.table.specs.Vertices.{offsetAt}
+use Rattle.table.specs.Vertices.{pinnedAt, offsetAt}
 use Rattle.table.specs.Stores.{slid}
 use Rattle.drawn.specs.Drawn.{vertex}
 use Rattle.offset.specs.Offset.{newOffset}
@@ -34,13 +34,15 @@ pub record Pass : Type 0 where
 abbrev pub passed : List ℕ → ℕ → Pass
 passed t n = record { table = t; total = n }
 
--- the step at one vertex
+-- the step at one vertex, to its new offset. "Smooth skips pinned vertices: they add 0 to the total" (Note 5)
+unfoldable pub stepTo : Layer → Pass → Edge → ℕ → Pass
+stepTo L s e new =
+    cond (pinnedAt L (s .table) e) s
+    (passed (slid L (s .table) e new) (s .total + distance (offsetAt L (s .table) e) new))
+
 unfoldable pub visit : Layer → Pass → Edge → Pass
-unfolding newOffset
-visit L s e =
-    let old : ℕ = offsetAt L (s .table) e in
-    let new : ℕ = smoothedAt L (s .table) e in
-    record { table = slid L (s .table) e new; total = s .total + distance old new }
+unfolding stepTo newOffset
+visit L s e = stepTo L s e (smoothedAt L (s .table) e)
 
 -- "a pass visits vertices in contour order, each using its neighbours as they then are": over one contour, the list of its sticks in walk order.
 -- "no contour's vertex is a neighbour of another's" (Note 3): it reads and changes no other contour's entry (proofs/Locality.antt)
@@ -86,7 +88,7 @@ module _ (onePass : List ℕ → Pass) (vertices : ℕ) where
   settle limit t = until limit (unsmoothed t)
 
 -- One contour, from f on: "Each contour is now settled by its own total and its own vertices, and a settled contour gets no further pass. The
--- pass limit holds for each." (Note 3)
+-- pass limit holds for each." (Note 3) Pinned vertices "count among the vertices" (Note 5).
 unfoldable pub smoothContour : Layer → ℕ → List ℕ → Edge → Smoothed
 unfolding passContour until
 smoothContour L limit t f = settle (contourPass L f) (length (contourOf L f)) limit t

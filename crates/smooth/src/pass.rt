@@ -10,6 +10,7 @@ use step::next_stick;
 use step::previous_stick;
 use table::Entry;
 use table::encoded_of;
+use table::has_pin;
 use table::offset_of;
 ghost use mathlib.Core.Path.{_≡_};
 ghost use Rattle.grid.specs.Layer.{layerOf};
@@ -33,12 +34,19 @@ fn change_of(old: u8, new: u8) -> usize
     }
 }
 
-// The step at the vertex of stick e, whose entry stands at `at` and whose neighbours are at p and q.
+// The step at the vertex of stick e, whose entry stands at `at` and whose neighbours are at p and q. A pinned vertex is skipped.
 fn visit(table: &mut [u16], at: usize, e: Edge, p: Position, q: Position) -> Stepped
     requires { ⌜ Visitable (now table) at p q e ⌝ }
     ensures { λ r. ⌜ Visited (now (table .entry)) at p q e r (now (table .exit)) ⌝ }
 {
-    let old = offset_of(table[at]);
+    let entry = table[at];
+    let old = offset_of(entry);
+    if has_pin(entry) {
+        return Stepped {
+            offset: old,
+            change: 0,
+        };
+    }
     let new = new_offset(p, q, e, old);
     table[at] = encoded_of(Entry::Kept(new));
     Stepped {
