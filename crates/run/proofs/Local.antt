@@ -17,8 +17,10 @@ use Rattle.contour.specs.Contours.{walkOf}
 use Rattle.contour.proofs.Members.{on-next}
 use Rattle.contour.proofs.Sticks.{laws}
 use Rattle.chord.specs.Points.{Position, position}
+use Rattle.table.specs.Entries.{encoded}
 use Rattle.table.specs.Stores.{without}
-use Rattle.table.proofs.Local.{Agree, Off, same-offset, stored-agree}
+use Rattle.table.specs.declared.entry.Entry.the-variants.{Removed}
+use Rattle.table.proofs.Local.{Agree, Off, same-offset, same-pin, stored-agree}
 use Rattle.drawn.specs.Drawn.{vertex}
 use Rattle.run.specs.Runs.{stickAfter, between, chordPasses, passes}
 
@@ -50,7 +52,7 @@ module _ (L : Layer) (sound : Sound L) (f : Edge) (stick : isStick L f ≡ true)
     same-tests tolerance p q zero e on = refl
     same-tests tolerance p q (suc n) e on =
         let on′ = on-next (walkOf L) (laws L sound) f e stick on in
-        rw (same-offset L f a (next L e) on′, same-tests tolerance p q n (next L e) on′)
+        rw (same-offset L f a (next L e) on′, same-pin L f a (next L e) on′, same-tests tolerance p q n (next L e) on′)
 
     pub same-passes : (tolerance : ℕ) (e : Edge) (n : ℕ) → OnContour (walkOf L) f e → passes L t tolerance e n ≡ passes L u tolerance e n
     unfolding passes
@@ -63,7 +65,7 @@ module _ (L : Layer) (sound : Sound L) (f : Edge) (stick : isStick L f ≡ true)
   following-agree zero e on a = a
   following-agree (suc n) e on a =
       let on′ = on-next (walkOf L) (laws L sound) f e stick on in
-      following-agree n (next L e) on′ (stored-agree L sound f stick a (next L e) on′ _ _ (ap (λ (o : ℕ). 256 + o) (same-offset L f a (next L e) on′)))
+      following-agree n (next L e) on′ (stored-agree L sound f stick a (next L e) on′ _ _ (ap (λ (o : ℕ). encoded (Removed o)) (same-offset L f a (next L e) on′)))
 
   pub inner-agree : (e : Edge) (n : ℕ) {t u : List ℕ} → OnContour (walkOf L) f e → Agree L f t u
       → Agree L f (foldl (without L) t (between L e n)) (foldl (without L) u (between L e n))

@@ -46,7 +46,8 @@ module _ (L : Layer) (t : List ℕ) (tolerance : ℕ) (e : Edge) (n : ℕ) where
   passes-crosses h j a b =
       let p = vertex L t e in
       let q = vertex L t (stickAfter L n e) in
-      and-split (crosses p q (stickAfter L j e)) _ (each-following L (chordPasses L t tolerance p q) (n - 1) e h j a (omega arith)) .0
+      and-split (crosses p q (stickAfter L j e)) _
+      (and-split _ _ (each-following L (chordPasses L t tolerance p q) (n - 1) e h j a (omega arith)) .0) .0
 
 -- the inner sticks of a run are met once
 abbrev pub Apart : Layer → Edge → ℕ → Type 0

@@ -1,7 +1,7 @@
 -- Runs along a contour, and when one passes. A run is a stick and a number of edges: from the vertex of the stick to that of the stick
 -- so many steps on.
 use mathlib.Core.Path.{_≡_}
-use mathlib.Core.Bool.{Bool, true, _&&_}
+use mathlib.Core.Bool.{Bool, true, not, _&&_}
 use mathlib.Core.List.{List}
 use Prim.Native.Nat.{ℕ, _-_}
 use lib.ListN.{length}
@@ -15,7 +15,7 @@ use Rattle.contour.specs.Walk.{ahead}
 use Rattle.contour.specs.Contours.{walkOf, contourOf}
 use Rattle.chord.specs.Points.{Position}
 use Rattle.chord.specs.Crossing.{crosses, slidesWithin}
-use Rattle.table.specs.Vertices.{offsetAt}
+use Rattle.table.specs.Vertices.{pinnedAt, offsetAt}
 use Rattle.drawn.specs.Drawn.{vertex}
 
 -- the stick n steps on from e
@@ -26,9 +26,10 @@ stickAfter L n e = ahead (walkOf L) n e
 abbrev pub between : Layer → Edge → ℕ → List Edge
 between L e n = following L (n - 1) e
 
--- "its chord crosses each stick between and each vertex there would slide at most T (in 1/256, compared exactly)": at one stick
+-- "its chord crosses each stick between and each vertex there would slide at most T (in 1/256, compared exactly)": at one stick. "Simplify lets
+-- no run pass that has one strictly inside", a pinned vertex (Note 5)
 abbrev pub chordPasses : Layer → List ℕ → ℕ → Position → Position → Edge → Bool
-chordPasses L t tolerance p q u = crosses p q u && slidesWithin tolerance p q u (offsetAt L t u)
+chordPasses L t tolerance p q u = crosses p q u && slidesWithin tolerance p q u (offsetAt L t u) && not (pinnedAt L t u)
 
 -- "A run passes if it is a single edge, or if its chord crosses each stick between and each vertex there would slide at most T": a single
 -- edge has no stick between. Over points this is `RunPasses` (Meaning.antt).

@@ -7,6 +7,7 @@ use grid::Edge;
 use grid::Size;
 use step::next_stick;
 use table::entry_at;
+use table::is_pinned;
 use table::offset_in;
 ghost use mathlib.Core.Path.{_≡_};
 ghost use Rattle.grid.specs.Layer.{layerOf};
@@ -14,7 +15,7 @@ ghost use Rattle.chord.specs.Runs.{Near};
 ghost use Rattle.table.specs.Lent.{LentAt};
 ghost use Rattle.run.specs.Runs.{chordPasses, passes, RunLent};
 
-// Whether the chord from p to q crosses the stick u, and the vertex there would slide to it by at most t.
+// Whether the chord from p to q crosses the stick u, and the vertex there would slide to it by at most t and is not pinned.
 fn chord_passes(
     size: Size,
     bitmap: &[u8],
@@ -32,7 +33,11 @@ fn chord_passes(
     if !crosses_stick(p, q, u) {
         return false;
     }
-    slides_within(t, p, q, u, offset_in(entry_at(size, table, u)))
+    let entry = entry_at(size, table, u);
+    if !slides_within(t, p, q, u, offset_in(entry)) {
+        return false;
+    }
+    !is_pinned(entry)
 }
 
 // Whether the run of n edges from stick e to stick `end` passes. It stops at the first stick that fails.
