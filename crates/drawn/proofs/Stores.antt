@@ -1,4 +1,5 @@
--- What a store to the entry of a kept vertex does to the drawn edges: a slide, which changes the vertex's offset, and a removal, which keeps it.
+-- What a store to the entry of a kept vertex does to the drawn edges: a slide, which changes the vertex's offset, a removal and a pin, which keep
+-- it.
 use mathlib.Core.Path.{_≡_, refl, ap, sym, subst, _∙_}
 use mathlib.Core.Logic.{_≢_}
 use mathlib.Core.Bool.{true, _||_}
@@ -19,9 +20,9 @@ use Rattle.contour.proofs.Sticks.{laws, same-edge}
 use Rattle.chord.specs.Points.{position}
 use Rattle.table.specs.Entries.{entriesAnswer}
 use Rattle.table.specs.Vertices.{isKept, isRemoved, offsetIn, entryAt, keptAt, removedAt, offsetAt}
-use Rattle.table.specs.Stores.{store, slid, without}
+use Rattle.table.specs.Stores.{store, slid, without, pinned}
 use Rattle.table.specs.declared.entry.Entry.{Entry}
-use Rattle.table.specs.declared.entry.Entry.the-variants.{Kept, Removed}
+use Rattle.table.specs.declared.entry.Entry.the-variants.{Kept, Removed, Pinned}
 use Rattle.table.proofs.Entries.{Inside, inside-suits, suits-vertex}
 use Rattle.table.proofs.Stores.{store-here, store-other, store-alike, store-entries, store-length}
 use Rattle.drawn.specs.Neighbours.{gapAfter, gapBefore, nextKept, previousKept}
@@ -122,3 +123,35 @@ module _ (L : Layer) (sound : Sound L) (t : List ℕ) (exact : length t ≡ edge
 
     pub removal-length : length (without L t u) ≡ edgeCount (L .size)
     removal-length = store-length L t u gone ∙ exact
+
+    -- A pin: no vertex moves, and what is kept or removed stays so
+
+    abbrev held-fast : Entry
+    held-fast = Pinned (offsetAt L t u)
+
+    pub pin-kept : (e : Edge) → keptAt L (pinned L t u) e ≡ keptAt L t e
+    unfolding keptAt
+    pin-kept = store-alike L sound t exact u (drawn .stick) held-fast inside isKept (sym (drawn .kept))
+
+    pin-removed : (e : Edge) → removedAt L (pinned L t u) e ≡ removedAt L t e
+    unfolding removedAt
+    pin-removed = store-alike L sound t exact u (drawn .stick) held-fast inside isRemoved (sym (kept-not-removed L t u (drawn .kept)))
+
+    pub pin-next : (e : Edge) → nextKept L (pinned L t u) e ≡ nextKept L t e
+    pin-next = kept-same (next L) L t (pinned L t u) pin-removed (edgeCount (L .size))
+
+    pub pin-after : (e : Edge) → gapAfter L (pinned L t u) e ≡ gapAfter L t e
+    pin-after = gap-same (next L) L t (pinned L t u) pin-removed (edgeCount (L .size))
+
+    pub pin-vertex : (e : Edge) → vertex L (pinned L t u) e ≡ vertex L t e
+    unfolding offsetAt
+    pin-vertex e = ap (position e) (store-alike L sound t exact u (drawn .stick) held-fast inside offsetIn refl e)
+
+    pub pin-vertices : Vertices L (pinned L t u)
+    pin-vertices = stored-vertices held-fast inside vertices
+
+    pub pin-entries : entriesAnswer L t ≡ Yes → entriesAnswer L (pinned L t u) ≡ Yes
+    pin-entries = store-entries L sound t exact u (drawn .stick) held-fast inside
+
+    pub pin-length : length (pinned L t u) ≡ edgeCount (L .size)
+    pin-length = store-length L t u held-fast ∙ exact

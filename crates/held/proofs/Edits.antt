@@ -1,5 +1,6 @@
 -- Edits of a held layer. A slide or a removal leaves it held if the redrawn edges cross every removed stick between their ends, since all
--- others are as before. A removal that does so leaves more than three kept vertices on its contour, so that question 13 is never answered no.
+-- others are as before; a pin redraws none. A removal that does so leaves more than three kept vertices on its contour, so that question 13 is
+-- never answered no.
 use mathlib.Core.Path.{_≡_, ap, sym, subst, _∙_}
 use mathlib.Core.Logic.{_≢_}
 use mathlib.Core.Bool.{true, false}
@@ -21,7 +22,7 @@ use Rattle.contour.proofs.First.{first-one}
 use Rattle.contour.proofs.Members.{on-one}
 use Rattle.contour.proofs.Sticks.{laws, same-edge}
 use Rattle.table.specs.Vertices.{keptAt}
-use Rattle.table.specs.Stores.{slid, without}
+use Rattle.table.specs.Stores.{slid, without, pinned}
 use Rattle.table.proofs.Entries.{Inside}
 use Rattle.drawn.specs.Neighbours.{nextKept, previousKept}
 use Rattle.drawn.proofs.Gaps.{kept-not-removed, not-both}
@@ -32,7 +33,7 @@ use Rattle.drawn.proofs.Neighbours.{previous-next, next-previous, previous-draw
 use Rattle.drawn.proofs.SideLemma.{not-one, not-two}
 use Rattle.drawn.proofs.FourKept.{keptFrom-on, four-kept}
 use Rattle.drawn.proofs.Removal.{OneMore, still-drawn, next-as-before, next-over-removed, crosses-as-before}
-use Rattle.drawn.proofs.Stores.{slide-kept, slide-next, slide-after, slide-vertex, slide-vertices, removal-vertex, removal-vertices, removal-more}
+use Rattle.drawn.proofs.Stores.{slide-kept, slide-next, slide-after, slide-vertex, slide-vertices, removal-vertex, removal-vertices, removal-more, pin-kept, pin-next, pin-after, pin-vertex, pin-vertices}
 use Rattle.held.specs.Held.{heldAnswer}
 use Rattle.held.proofs.HeldFacts.{HeldFacts, held-of}
 use Rattle.held.proofs.Holding.{layer-held}
@@ -158,3 +159,23 @@ module _ (L : Layer) (sound : Sound L) (t : List ℕ) (exact : length t ≡ edge
         next-as-before L t t′ sound vertices vertices′ u more N dN next-other (λ s. previous-other (sym e ∙ s)) in
         not-two L t′ sound vertices′ P dP′ over (removal-crosses (nextKept L t′ P) (end-drawn L t′ sound vertices′ P dP′))
         (ap (nextKept L t′) removal-next ∙ as-before ∙ e)
+
+  -- A pin: every drawn edge is as before
+
+  pin-crosses : (p : Edge) → edgeCrosses L (pinned L t u) p ≡ edgeCrosses L t p
+  unfolding edgeCrosses
+  pin-crosses p = rw (
+    pin-next L sound t exact u drawn vertices p,
+    pin-after L sound t exact u drawn vertices p,
+    pin-vertex L sound t exact u drawn vertices p,
+    pin-vertex L sound t exact u drawn vertices (nextKept L t p),
+  )
+
+  pub pin-held : heldAnswer L (pinned L t u) ≡ Yes
+  pin-held =
+      let same = pin-kept L sound t exact u drawn vertices in
+      layer-held L (pinned L t u) sound (pin-vertices L sound t exact u drawn vertices)
+      (λ p d. pin-crosses p ∙ held .crossed p (record { stick = d .stick; kept = sym (same p) ∙ d .kept }))
+      (λ f h.
+      let k = held .some-kept f (first-one (walkOf L) (laws L sound) f h) in
+      (k .0, k .1, same (k .0) ∙ k .2))
