@@ -5,41 +5,48 @@ use mathlib.Core.List.{List, [], _∷_}
 use Prim.Native.Nat.{ℕ, _≤_, _<_}
 use borrow.Author.Tests.{le-leb, lt-leb, not-true, not-false}
 use lib.Dec.{leb}
-use Rattle.arith.proofs.Booleans.{and-split}
+use Rattle.arith.proofs.Booleans.{both-sides, and-split}
 use Rattle.arith.specs.Lists.{among}
 use Rattle.grid.specs.Layer.{Layer}
 use Rattle.grid.specs.Questions.{firstNo}
 use Rattle.grid.specs.Edges.{inGrid}
+use Rattle.grid.specs.declared.layer.Size.{Size}
 use Rattle.grid.specs.declared.edge.Edge.{Edge}
 use Rattle.grid.specs.declared.question.Refusal.{Refusal}
-use Rattle.grid.specs.declared.question.Refusal.the-variants.{NoKeptVertex, BadOffset, NoCrossing, BeyondTolerance, TooFewKept}
+use Rattle.grid.specs.declared.question.Refusal.the-variants.{NoKeptVertex, VertexPinned, BadOffset, NoCrossing, BeyondTolerance, TooFewKept}
 use Rattle.grid.specs.declared.question.Answer.{Answer}
 use Rattle.grid.specs.declared.question.Answer.the-variants.{Yes, No}
 use Rattle.grid.proofs.Answers.{no-not-yes}
 use Rattle.contour.specs.Contours.{walkOf, contourOf}
 use Rattle.contour.proofs.Orbit.{same-false}
 use Rattle.contour.proofs.Sticks.{laws}
-use Rattle.table.specs.Vertices.{keptAt}
-use Rattle.table.specs.Stores.{slid, without}
+use Rattle.table.specs.Vertices.{entryAt, keptAt, pinnedAt, offsetAt}
+use Rattle.table.specs.Stores.{slid, without, pinned}
+use Rattle.table.specs.Lent.{HasEntry}
+use Rattle.table.specs.Pins.{PinsStay}
+use Rattle.table.specs.declared.entry.Entry.the-variants.{Kept, Removed}
+use Rattle.table.proofs.Entries.{pinned-kept}
+use Rattle.table.proofs.Pins.{store-pins, pin-again}
 use Rattle.drawn.specs.Neighbours.{nextKept, previousKept}
 use Rattle.drawn.specs.Drawn.{edgeCrosses}
 use Rattle.held.specs.Questions.{Accepted}
 use Rattle.held.proofs.Edits.{removal-three, removal-second, removal-third}
-use Rattle.edit.specs.Edits.{Named, askAt, edgeNamed, carriesKept, goodOffset, edgeWithin, slideAnswer, removalAnswer}
+use Rattle.edit.specs.Edits.{Named, askAt, edgeNamed, carriesKept, mayMove, goodOffset, edgeWithin, slideAnswer, removalAnswer, pinAnswer}
 use Rattle.edit.specs.declared.redraw.Chord.{Chord}
-use Rattle.edit.specs.Chords.{slidInto, slidOut, joinedOver, crossesChord, withinChord, chordsAnswer, namesKept, thirdLeft, storedIf, Editable, Slidable, NamedKept}
+use Rattle.edit.specs.Chords.{slidInto, slidOut, joinedOver, crossesChord, withinChord, chordsAnswer, namesKept, namesPinned, thirdLeft, storedIf, Editable, Slidable, NamedKept, Exact}
 use Rattle.edit.proofs.Within.{chord-within, chord-crosses}
-use Rattle.edit.proofs.Redrawn.{vertices, inside-of, kept-stick, before-drawn, slide-offsets, slide-accepted, removal-offsets, removal-accepted}
+use Rattle.edit.proofs.Redrawn.{vertices, inside-of, kept-stick, read-at, before-drawn, slide-offsets, slide-accepted, removal-offsets, removal-accepted, pin-accepted}
 
--- a yes to four questions is a yes to each
-four-yes : (place : ℕ) (p q r s : Refusal) (a b c d : Bool)
-    → firstNo (askAt place p a ∷ askAt place q b ∷ askAt place r c ∷ askAt place s d ∷ []) ≡ Yes
-    → (a ≡ true) × (b ≡ true) × (c ≡ true) × (d ≡ true)
-four-yes place p q r s true true true true h = (refl, refl, refl, refl)
-four-yes place p q r s true true true false h = absurd (no-not-yes s place h)
-four-yes place p q r s true true false d h = absurd (no-not-yes r place h)
-four-yes place p q r s true false c d h = absurd (no-not-yes q place h)
-four-yes place p q r s false b c d h = absurd (no-not-yes p place h)
+-- a yes to five questions is a yes to each
+five-yes : (place : ℕ) (p q r s u : Refusal) (a b c d e : Bool)
+    → firstNo (askAt place p a ∷ askAt place q b ∷ askAt place r c ∷ askAt place s d ∷ askAt place u e ∷ []) ≡ Yes
+    → (a ≡ true) × (b ≡ true) × (c ≡ true) × (d ≡ true) × (e ≡ true)
+five-yes place p q r s u true true true true true h = (refl, refl, refl, refl, refl)
+five-yes place p q r s u true true true true false h = absurd (no-not-yes u place h)
+five-yes place p q r s u true true true false e h = absurd (no-not-yes s place h)
+five-yes place p q r s u true true false d e h = absurd (no-not-yes r place h)
+five-yes place p q r s u true false c d e h = absurd (no-not-yes q place h)
+five-yes place p q r s u false b c d e h = absurd (no-not-yes p place h)
 
 -- a test as the code reads it: b is what a callee answered, and the branch goes by whether it is no
 
@@ -55,9 +62,15 @@ kept-if {t} t′ e = sym (ap (λ (x : Answer). storedIf x t t′) e)
 
 -- question 9
 
-names-kept : (L : Layer) (t : List ℕ) (s : Named) → namesKept (L .size) t s ≡ carriesKept L t s
+pub names-kept : (L : Layer) (t : List ℕ) (s : Named) → namesKept (L .size) t s ≡ carriesKept L t s
 unfolding keptAt
 names-kept L t s = refl
+
+-- a stick that it names has an entry
+pub in-table : (s : Named) {size : Size} {t : List ℕ} → Exact size t → namesKept size t s ≡ true → HasEntry size t (edgeNamed s)
+in-table s {size} {t} given kept =
+    let inside = and-split (leb (s .kind) 1 && inGrid size (edgeNamed s)) _ kept .0 in
+    record { sized = given .sized; exact = given .exact; in-grid = and-split (leb (s .kind) 1) (inGrid size (edgeNamed s)) inside .1 }
 
 pub named-at : (s : Named) {L : Layer} {t : List ℕ} → Accepted L t → carriesKept L t s ≡ true → Editable L t (edgeNamed s)
 named-at s {L} {t} accepted kept =
@@ -75,6 +88,21 @@ module _ (L : Layer) (t : List ℕ) (s : Named) {b : Bool} (is : b ≡ namesKept
 
   pub named-kept : Accepted L t → not b ≡ false → NamedKept L t s
   named-kept accepted h = record { accepted = accepted; kept = sym (names-kept L t s) ∙ yes-of is h }
+
+-- question 16
+
+pub named-entry : {L : Layer} {t : List ℕ} {s : Named} → NamedKept L t s → HasEntry (L .size) t (edgeNamed s)
+named-entry {s = s} k = read-at (k .accepted) (edgeNamed s) (named-at s (k .accepted) (k .kept) .drawn .stick)
+
+-- as `carries_pin` answers it
+module _ (L : Layer) (t : List ℕ) (s : Named) {b : Bool} (is : b ≡ namesPinned (L .size) t s) where
+  pub pinned-no : b ≡ true → mayMove L t s ≡ false
+  unfolding pinnedAt
+  pinned-no h = ap not (sym is ∙ h)
+
+  pub free-yes : b ≡ false → mayMove L t s ≡ true
+  unfolding pinnedAt
+  free-yes h = ap not (sym is ∙ h)
 
 -- question 10
 
@@ -97,30 +125,45 @@ module _ (L : Layer) (tolerance : ℕ) (t : List ℕ) (place : ℕ) (s : Named) 
   unfolding slideAnswer
   slide-none f = rw f
 
-  pub slide-yes : slideAnswer L tolerance t place s o ≡ Yes
-      → (carriesKept L t s ≡ true) × (goodOffset o ≡ true) × ((edgeCrosses L moved P && edgeCrosses L moved e) ≡ true)
-      × ((edgeWithin L moved tolerance P && edgeWithin L moved tolerance e) ≡ true)
+  -- what a yes says
+  pub record SlideYes : Type 0 where
+    pub kept : carriesKept L t s ≡ true
+    pub unpinned : mayMove L t s ≡ true
+    pub offset : goodOffset o ≡ true
+    pub crossed : (edgeCrosses L moved P && edgeCrosses L moved e) ≡ true
+    pub within : (edgeWithin L moved tolerance P && edgeWithin L moved tolerance e) ≡ true
+
+  pub slide-yes : slideAnswer L tolerance t place s o ≡ Yes → SlideYes
   unfolding slideAnswer
   slide-yes all =
-      four-yes place NoKeptVertex BadOffset NoCrossing BeyondTolerance (carriesKept L t s) (goodOffset o)
-      (edgeCrosses L moved P && edgeCrosses L moved e) (edgeWithin L moved tolerance P && edgeWithin L moved tolerance e) all
+      let y =
+      five-yes place NoKeptVertex VertexPinned BadOffset NoCrossing BeyondTolerance (carriesKept L t s) (mayMove L t s) (goodOffset o)
+      (edgeCrosses L moved P && edgeCrosses L moved e) (edgeWithin L moved tolerance P && edgeWithin L moved tolerance e) all in
+      record { kept = y .0; unpinned = y .1; offset = y .2; crossed = y .3; within = y .4 }
 
-  -- the table after it is accepted too
+  -- the table after it is accepted too, and has the pins
   pub slide-keeps : Accepted L t → slideAnswer L tolerance t place s o ≡ Yes → Accepted L moved
   slide-keeps accepted all =
       let yes = slide-yes all in
-      let both = and-split (edgeCrosses L moved P) (edgeCrosses L moved e) (yes .2) in
-      slide-accepted (named-at s accepted (yes .0)) (inside-of o (yes .1)) (both .0) (both .1)
+      let both = and-split (edgeCrosses L moved P) (edgeCrosses L moved e) (yes .crossed) in
+      slide-accepted (named-at s accepted (yes .kept)) (inside-of o (yes .offset)) (both .0) (both .1)
+
+  pub slide-pins : slideAnswer L tolerance t place s o ≡ Yes → PinsStay t moved
+  slide-pins all = store-pins L t e (Kept o) (not-true (pinnedAt L t e) (slide-yes all .unpinned))
 
 module _ (tolerance place : ℕ) {L : Layer} {t : List ℕ} {s : Named} (k : NamedKept L t s) (o : ℕ) where
-  pub slide-bad : o < 1 → No BadOffset place ≡ slideAnswer L tolerance t place s o
+  pub slide-pinned : mayMove L t s ≡ false → No VertexPinned place ≡ slideAnswer L tolerance t place s o
   unfolding slideAnswer
-  slide-bad h = rw (k .kept, lt-leb 1 o h)
+  slide-pinned pin = rw (k .kept, pin)
 
-  pub slide-asked : {x : Edge} → x ≡ edgeNamed s → Slidable L t x o → {a b : Chord} → a ≡ slidInto L t x o → b ≡ slidOut L t x o
+  pub slide-bad : mayMove L t s ≡ true → o < 1 → No BadOffset place ≡ slideAnswer L tolerance t place s o
+  unfolding slideAnswer
+  slide-bad free h = rw (k .kept, free, lt-leb 1 o h)
+
+  pub slide-asked : mayMove L t s ≡ true → {x : Edge} → x ≡ edgeNamed s → Slidable L t x o → {a b : Chord} → a ≡ slidInto L t x o → b ≡ slidOut L t x o
       → chordsAnswer L t tolerance place a b ≡ slideAnswer L tolerance t place s o
   unfolding slideAnswer
-  slide-asked is r {a} {b} ea eb =
+  slide-asked free is r {a} {b} ea eb =
       let e = edgeNamed s in
       let v = named-at s (k .accepted) (k .kept) in
       let sound = k .accepted .sound in
@@ -130,6 +173,7 @@ module _ (tolerance place : ℕ) {L : Layer} {t : List ℕ} {s : Named} (k : Nam
       let out = eb ∙ ap (λ (x : Edge). slidOut L t x o) is in
       rw (
         k .kept,
+        free,
         r .offset,
         ← chord-crosses L t′ (previousKept L t e) a into,
         ← chord-crosses L t′ e b out,
@@ -150,21 +194,37 @@ module _ (L : Layer) (tolerance : ℕ) (t : List ℕ) (place : ℕ) (s : Named) 
   unfolding removalAnswer
   removal-none f = rw f
 
-  pub removal-yes : removalAnswer L tolerance t place s ≡ Yes
-      → (carriesKept L t s ≡ true) × (edgeCrosses L left before ≡ true) × (edgeWithin L left tolerance before ≡ true)
-      × (leb 3 (among (keptAt L left) (contourOf L (edgeNamed s))) ≡ true)
+  pub record RemovalYes : Type 0 where
+    pub kept : carriesKept L t s ≡ true
+    pub unpinned : mayMove L t s ≡ true
+    pub crossed : edgeCrosses L left before ≡ true
+    pub within : edgeWithin L left tolerance before ≡ true
+    pub three : leb 3 (among (keptAt L left) (contourOf L (edgeNamed s))) ≡ true
+
+  pub removal-yes : removalAnswer L tolerance t place s ≡ Yes → RemovalYes
   unfolding removalAnswer
   removal-yes all =
-      four-yes place NoKeptVertex NoCrossing BeyondTolerance TooFewKept (carriesKept L t s) (edgeCrosses L left before)
-      (edgeWithin L left tolerance before) (leb 3 (among (keptAt L left) (contourOf L (edgeNamed s)))) all
+      let y =
+      five-yes place NoKeptVertex VertexPinned NoCrossing BeyondTolerance TooFewKept (carriesKept L t s) (mayMove L t s)
+      (edgeCrosses L left before) (edgeWithin L left tolerance before) (leb 3 (among (keptAt L left) (contourOf L (edgeNamed s)))) all in
+      record { kept = y .0; unpinned = y .1; crossed = y .2; within = y .3; three = y .4 }
 
   pub removal-keeps : Accepted L t → removalAnswer L tolerance t place s ≡ Yes → Accepted L left
   removal-keeps accepted all =
       let yes = removal-yes all in
-      removal-accepted (named-at s accepted (yes .0)) (yes .1)
+      removal-accepted (named-at s accepted (yes .kept)) (yes .crossed)
 
-module _ (tolerance place : ℕ) {L : Layer} {t : List ℕ} {s : Named} (k : NamedKept L t s) {x : Edge} (is : x ≡ edgeNamed s) {c : Chord}
-    (joined : c ≡ joinedOver L t x) where
+  pub removal-pins : removalAnswer L tolerance t place s ≡ Yes → PinsStay t left
+  removal-pins all =
+      store-pins L t (edgeNamed s) (Removed (offsetAt L t (edgeNamed s))) (not-true (pinnedAt L t (edgeNamed s)) (removal-yes all .unpinned))
+
+module _ (tolerance place : ℕ) {L : Layer} {t : List ℕ} {s : Named} (k : NamedKept L t s) where
+  pub removal-pinned : mayMove L t s ≡ false → No VertexPinned place ≡ removalAnswer L tolerance t place s
+  unfolding removalAnswer
+  removal-pinned pin = rw (k .kept, pin)
+
+module _ (tolerance place : ℕ) {L : Layer} {t : List ℕ} {s : Named} (k : NamedKept L t s) (free : mayMove L t s ≡ true) {x : Edge}
+    (is : x ≡ edgeNamed s) {c : Chord} (joined : c ≡ joinedOver L t x) where
   abbrev accepted : Accepted L t
   accepted = k .accepted
 
@@ -181,12 +241,12 @@ module _ (tolerance place : ℕ) {L : Layer} {t : List ℕ} {s : Named} (k : Nam
 
   pub removal-missed : crossesChord L c ≡ false → No NoCrossing place ≡ removalAnswer L tolerance t place s
   unfolding removalAnswer
-  removal-missed f = rw (k .kept, crossing ∙ f)
+  removal-missed f = rw (k .kept, free, crossing ∙ f)
 
   module _ (crossed : crossesChord L c ≡ true) where
     pub removal-far : withinChord L t tolerance c ≡ false → No BeyondTolerance place ≡ removalAnswer L tolerance t place s
     unfolding removalAnswer
-    removal-far f = rw (k .kept, crossing ∙ crossed, measured ∙ f)
+    removal-far f = rw (k .kept, free, crossing ∙ crossed, measured ∙ f)
 
     -- once the joined edge crosses there are three kept vertices left, by the count and by the walk
     pub removal-done : withinChord L t tolerance c ≡ true → Yes ≡ removalAnswer L tolerance t place s
@@ -195,7 +255,7 @@ module _ (tolerance place : ℕ) {L : Layer} {t : List ℕ} {s : Named} (k : Nam
         let enough =
         le-leb 3 _
         (removal-three L (accepted .sound) t (accepted .exact) (vertices accepted) (accepted .held) (edgeNamed s) (v .drawn) (crossing ∙ crossed)) in
-        rw (k .kept, crossing ∙ crossed, measured ∙ f, enough)
+        rw (k .kept, free, crossing ∙ crossed, measured ∙ f, enough)
 
     pub removal-third-left : thirdLeft L t x (c .stick) ≡ true
     removal-third-left =
@@ -210,3 +270,27 @@ module _ (tolerance place : ℕ) {L : Layer} {t : List ℕ} {s : Named} (k : Nam
         ∙ (λ i.
         not (same-false (walkOf L) law {x = N} {y = P} (λ q. second (sym q)) i)
         && not (same-false (walkOf L) law {x = nextKept L t N} {y = P} third i))
+
+-- a pin
+
+module _ (L : Layer) (t : List ℕ) (place : ℕ) (s : Named) where
+  pub pin-none : carriesKept L t s ≡ false → No NoKeptVertex place ≡ pinAnswer L t place s
+  unfolding pinAnswer
+  pin-none f = rw f
+
+  pub pin-done : carriesKept L t s ≡ true → Yes ≡ pinAnswer L t place s
+  unfolding pinAnswer
+  pin-done f = rw f
+
+  pin-yes : pinAnswer L t place s ≡ Yes → carriesKept L t s ≡ true
+  pin-yes all = both-sides (carriesKept L t s) (λ y. y) (λ no. absurd (no-not-yes NoKeptVertex place (pin-none no ∙ all)))
+
+  pub pin-keeps : Accepted L t → pinAnswer L t place s ≡ Yes → Accepted L (pinned L t (edgeNamed s))
+  pin-keeps accepted all = pin-accepted (named-at s accepted (pin-yes all))
+
+  -- "A pin on an already pinned vertex is done and alters nothing." (Note 5)
+  pub pin-twice : leb (s .kind) 1 ≡ true → inGrid (L .size) (edgeNamed s) ≡ true → pinnedAt L t (edgeNamed s) ≡ true
+      → (pinAnswer L t place s ≡ Yes) × (pinned L t (edgeNamed s) ≡ t)
+  unfolding pinnedAt keptAt
+  pin-twice kind inside pin =
+      (sym (pin-done (rw (kind, inside) (pinned-kept (entryAt L t (edgeNamed s)) pin))), pin-again L t (edgeNamed s) pin)

@@ -1,6 +1,6 @@
 -- Questions 11 and 12 say what the paper says, over points: of a redrawn edge both are answered yes exactly if it crosses each removed stick
 -- between its ends and the point there is within T of the vertex. So a slide or a removal of a held layer is accepted exactly if that holds
--- of the edges that it redraws, besides questions 9, 10 and 13.
+-- of the edges that it redraws, besides questions 9, 10, 13 and 16.
 use mathlib.Core.Path.{_≡_, _∙_}
 use mathlib.Core.Logic.{_↔_}
 use mathlib.Core.Bool.{Bool, true, _&&_}
@@ -118,14 +118,15 @@ module _ (L : Layer) (t : List ℕ) (accepted : Accepted L t) (s : Named) (toler
         to : slideAnswer L tolerance t place s o ≡ Yes → SlideAccepted L t tolerance s o
         to all =
             let y = slide-yes L tolerance t place s o all in
-            let v = named-at s accepted (y .0) in
-            let c = and-split (edgeCrosses L moved P) (edgeCrosses L moved e) (y .2) in
-            let w = and-split (edgeWithin L moved tolerance P) (edgeWithin L moved tolerance e) (y .3) in
+            let v = named-at s accepted (y .kept) in
+            let c = and-split (edgeCrosses L moved P) (edgeCrosses L moved e) (y .crossed) in
+            let w = and-split (edgeWithin L moved tolerance P) (edgeWithin L moved tolerance e) (y .within) in
             record {
-              kept = y .0;
-              offset = y .1;
-              into = moved-is v (y .1) P (before-drawn v) .0 (both-true (c .0) (w .0));
-              out = moved-is v (y .1) e (v .drawn) .0 (both-true (c .1) (w .1));
+              kept = y .kept;
+              unpinned = y .unpinned;
+              offset = y .offset;
+              into = moved-is v (y .offset) P (before-drawn v) .0 (both-true (c .0) (w .0));
+              out = moved-is v (y .offset) e (v .drawn) .0 (both-true (c .1) (w .1));
             }
 
         from : SlideAccepted L t tolerance s o → slideAnswer L tolerance t place s o ≡ Yes
@@ -134,7 +135,7 @@ module _ (L : Layer) (t : List ℕ) (accepted : Accepted L t) (s : Named) (toler
             let i = and-split (edgeCrosses L moved P) (edgeWithin L moved tolerance P)
             (moved-is v (a .offset) P (before-drawn v) .1 (a .into)) in
             let u = and-split (edgeCrosses L moved e) (edgeWithin L moved tolerance e) (moved-is v (a .offset) e (v .drawn) .1 (a .out)) in
-            rw (a .kept, a .offset, i .0, u .0, i .1, u .1)
+            rw (a .kept, a .unpinned, a .offset, i .0, u .0, i .1, u .1)
 
   -- a removal: the edge that joins the neighbours is drawn after it
 
@@ -161,9 +162,14 @@ module _ (L : Layer) (t : List ℕ) (accepted : Accepted L t) (s : Named) (toler
       to : removalAnswer L tolerance t place s ≡ Yes → RemovalAccepted L t tolerance s
       to all =
           let y = removal-yes L tolerance t place s all in
-          record { kept = y .0; over = joined-is (y .0) .0 (both-true (y .1) (y .2)); three = leb-true 3 many (y .3) }
+          record {
+            kept = y .kept;
+            unpinned = y .unpinned;
+            over = joined-is (y .kept) .0 (both-true (y .crossed) (y .within));
+            three = leb-true 3 many (y .three);
+          }
 
       from : RemovalAccepted L t tolerance s → removalAnswer L tolerance t place s ≡ Yes
       from a =
           let j = and-split (edgeCrosses L rest P) (edgeWithin L rest tolerance P) (joined-is (a .kept) .1 (a .over)) in
-          rw (a .kept, j .0, j .1, le-leb 3 many (a .three))
+          rw (a .kept, a .unpinned, j .0, j .1, le-leb 3 many (a .three))

@@ -2,7 +2,7 @@
 -- as the definition has it, on the table after the edit.
 use mathlib.Core.Path.{_≡_, sym, _∙_, ap, subst}
 use mathlib.Core.Logic.{_≢_}
-use mathlib.Core.Bool.{Bool, true, false, false≢true}
+use mathlib.Core.Bool.{true, false}
 use mathlib.Core.List.{List}
 use Prim.Native.Nat.{ℕ, _+_, _≤_}
 use native.Mathlib.Omega.{arith}
@@ -23,13 +23,11 @@ use Rattle.chord.specs.Runs.{NearEdge}
 use Rattle.chord.proofs.EdgePoints.{along-position}
 use Rattle.chord.proofs.Tests.{stick-near}
 use Rattle.table.specs.Entries.{suits, wrongAt, entriesAnswer}
-use Rattle.table.specs.Vertices.{isKept, entryAt, keptAt, removedAt, offsetAt}
+use Rattle.table.specs.Vertices.{entryAt, keptAt, removedAt, offsetAt}
 use Rattle.table.specs.Lent.{LentAt, HasEntry}
-use Rattle.table.specs.declared.entry.Entry.{Entry}
-use Rattle.table.specs.declared.entry.Entry.the-variants.{Nothing, Kept, Removed, Wrong}
-use Rattle.table.proofs.Entries.{Inside}
+use Rattle.table.proofs.Entries.{Inside, kept-on-stick}
 use Rattle.table.proofs.Lent.{has-entry}
-use Rattle.table.specs.Stores.{slid, without}
+use Rattle.table.specs.Stores.{slid, without, pinned}
 use Rattle.drawn.specs.Neighbours.{gapAfter, gapBefore, nextKept, previousKept}
 use Rattle.drawn.proofs.Gaps.{not-both, kept-not-removed}
 use Rattle.drawn.specs.Drawn.{vertex, edgeCrosses, Drawn}
@@ -38,10 +36,10 @@ use Rattle.drawn.proofs.Owners.{end-drawn}
 use Rattle.drawn.proofs.Neighbours.{next-previous, previous-drawn}
 use Rattle.drawn.proofs.SideLemma.{not-one}
 use Rattle.drawn.proofs.Removal.{OneMore}
-use Rattle.drawn.proofs.Stores.{slide-removed, slide-next, slide-after, slide-offset, slide-vertex, slide-entries, slide-length, removal-vertex, removal-more, removal-entries, removal-length}
+use Rattle.drawn.proofs.Stores.{slide-removed, slide-next, slide-after, slide-offset, slide-vertex, slide-entries, slide-length, removal-vertex, removal-more, removal-entries, removal-length, pin-entries, pin-length}
 use Rattle.held.specs.Questions.{Accepted}
 use Rattle.held.proofs.HeldFacts.{HeldFacts, held-of}
-use Rattle.held.proofs.Edits.{slide-held, removal-held}
+use Rattle.held.proofs.Edits.{slide-held, removal-held, pin-held}
 use Rattle.edit.specs.Edits.{goodOffset}
 use Rattle.edit.specs.Chords.{chordOf, Editable}
 use Rattle.edit.proofs.GapLengths.{before-after, before-most, after-most, joined}
@@ -76,13 +74,7 @@ module _ {L : Layer} {t : List ℕ} (accepted : Accepted L t) where
       (number-below (L .size) sized e inside)) in
       let here : suits (isStick L e) (entryAt L t e) ≡ true =
       ap (λ (b : Edge). suits (isStick L b) (entryAt L t e)) (sym (edgeAt-number (L .size) sized e inside)) ∙ fits in
-      record { stick = go (isStick L e) (entryAt L t e) here kept; kept = kept }
-    where
-      go : (b : Bool) (x : Entry) → suits b x ≡ true → isKept x ≡ true → b ≡ true
-      go b Nothing s k = absurd (false≢true k)
-      go b (Kept o) s k = s
-      go b (Removed o) s k = absurd (false≢true k)
-      go b Wrong s k = absurd (false≢true k)
+      record { stick = kept-on-stick (isStick L e) (entryAt L t e) here kept; kept = kept }
 
 -- A vertex that an edit may be tried on
 
@@ -205,4 +197,14 @@ module _ {L : Layer} {t : List ℕ} {e : Edge} (k : Editable L t e) where
     exact = removal-length L sound t (accepted .exact) e d v;
     entries = removal-entries L sound t (accepted .exact) e d v (accepted .entries);
     held = removal-held L sound t (accepted .exact) v (accepted .held) e d over;
+  }
+
+  -- A pin
+
+  pub pin-accepted : Accepted L (pinned L t e)
+  pin-accepted = record {
+    sound = sound;
+    exact = pin-length L sound t (accepted .exact) e d v;
+    entries = pin-entries L sound t (accepted .exact) e d v (accepted .entries);
+    held = pin-held L sound t (accepted .exact) v (accepted .held) e d;
   }

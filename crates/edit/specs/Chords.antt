@@ -19,7 +19,7 @@ use Rattle.chord.specs.Points.{Position}
 use Rattle.chord.specs.Crossing.{slidesWithin}
 use Rattle.chord.specs.Runs.{crossesRun, ChordAt}
 use Rattle.table.specs.Entries.{entryOf}
-use Rattle.table.specs.Vertices.{isKept, offsetAt}
+use Rattle.table.specs.Vertices.{isKept, isPinned, offsetAt}
 use Rattle.table.specs.Stores.{slid, without}
 use Rattle.drawn.specs.Neighbours.{gapAfter, nextKept, previousKept}
 use Rattle.drawn.specs.Drawn.{vertex, Ends, drawnFrom, Drawn}
@@ -71,6 +71,10 @@ chordsAnswer L t tolerance place a b =
 -- question 9 of a table alone: carriesKept (Edits.antt) asks no bitmap
 abbrev pub namesKept : Size → List ℕ → Named → Bool
 namesKept size t s = leb (s .kind) 1 && inGrid size (edgeNamed s) && isKept (entryOf (getD t (number size (edgeNamed s)) 0))
+
+-- and question 16
+abbrev pub namesPinned : Size → List ℕ → Named → Bool
+namesPinned size t s = isPinned (entryOf (getD t (number size (edgeNamed s)) 0))
 
 -- question 13 by a walk of two gaps: the kept vertex after e and the one after that are not the kept one before e
 abbrev pub thirdLeft : Layer → List ℕ → Edge → Edge → Bool

@@ -1,5 +1,5 @@
--- One edit of a roll: questions 9 to 13, and the table after it. "An accepted edit writes the named stick's entry and no other."
-use mathlib.Core.Bool.{Bool, cond, _&&_}
+-- One edit of a roll: questions 9 to 13, and 16, and the table after it. "An accepted edit writes the named stick's entry and no other."
+use mathlib.Core.Bool.{Bool, cond, not, _&&_}
 use mathlib.Core.List.{List, [], _∷_}
 use Prim.Native.Nat.{ℕ}
 use lib.Dec.{eqb, leb}
@@ -14,7 +14,7 @@ use Rattle.grid.specs.declared.question.Answer.{Answer}
 use Rattle.grid.specs.declared.question.Answer.the-variants.{Yes, No}
 use Rattle.contour.specs.Contours.{contourOf}
 use Rattle.chord.specs.Crossing.{slidesWithin}
-use Rattle.table.specs.Vertices.{keptAt, offsetAt}
+use Rattle.table.specs.Vertices.{keptAt, pinnedAt, offsetAt}
 use Rattle.table.specs.Stores.{slid, without}
 use Rattle.drawn.specs.Neighbours.{gapAfter, nextKept, previousKept}
 use Rattle.drawn.specs.Drawn.{vertex, edgeCrosses}
@@ -42,6 +42,10 @@ edgeWithin L t tolerance e =
 abbrev pub carriesKept : Layer → List ℕ → Named → Bool
 carriesKept L t s = leb (s .kind) 1 && inGrid (L .size) (edgeNamed s) && keptAt L t (edgeNamed s)
 
+-- "16, a slide or removal of a pinned vertex, after question 9 and before 10" (Note 5)
+abbrev pub mayMove : Layer → List ℕ → Named → Bool
+mayMove L t s = not (pinnedAt L t (edgeNamed s))
+
 -- "10. Is the new offset 1 to 255?"
 abbrev pub goodOffset : ℕ → Bool
 goodOffset o = leb 1 o && leb o 255
@@ -55,6 +59,7 @@ module _ (L : Layer) (tolerance : ℕ) (t : List ℕ) (place : ℕ) where
       let before : Edge = previousKept L t e in
       firstNo (
       askAt place Refusal.NoKeptVertex (carriesKept L t s)
+      ∷ askAt place Refusal.VertexPinned (mayMove L t s)
       ∷ askAt place Refusal.BadOffset (goodOffset o)
       ∷ askAt place Refusal.NoCrossing (edgeCrosses L (slid L t e o) before && edgeCrosses L (slid L t e o) e)
       ∷ askAt place Refusal.BeyondTolerance (edgeWithin L (slid L t e o) tolerance before && edgeWithin L (slid L t e o) tolerance e)
@@ -69,8 +74,13 @@ module _ (L : Layer) (tolerance : ℕ) (t : List ℕ) (place : ℕ) where
       let before : Edge = previousKept L t e in
       firstNo (
       askAt place Refusal.NoKeptVertex (carriesKept L t s)
+      ∷ askAt place Refusal.VertexPinned (mayMove L t s)
       ∷ askAt place Refusal.NoCrossing (edgeCrosses L (without L t e) before)
       ∷ askAt place Refusal.BeyondTolerance (edgeWithin L (without L t e) tolerance before)
       ∷ askAt place Refusal.TooFewKept (leb 3 (among (keptAt L (without L t e)) (contourOf L e)))
       ∷ []
       )
+
+-- P "pins a kept vertex" (Note 5): it redraws nothing, and question 9 is the only one that applies
+unfoldable pub pinAnswer : Layer → List ℕ → ℕ → Named → Answer
+pinAnswer L t place s = askAt place Refusal.NoKeptVertex (carriesKept L t s)

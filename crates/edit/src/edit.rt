@@ -1,6 +1,7 @@
-// One edit of a held layer: questions 9 to 13 of a slide and of a removal, and the one entry that is stored after a yes.
+// One edit of a held layer: questions 9 to 13 and 16 of a slide and of a removal, 9 of a pin, and the one entry that is stored after a yes.
 use super::named::Named;
 use super::named::carries_kept;
+use super::named::carries_pin;
 use super::named::edge_named;
 use super::redraw::Chord;
 use super::redraw::crosses_all;
@@ -18,11 +19,13 @@ use grid::Refusal;
 use grid::Size;
 use table::Entry;
 ghost use mathlib.Core.Path.{_≡_};
+ghost use mathlib.Core.List.{List};
+ghost use Prim.Native.Nat.{ℕ};
 ghost use Rattle.grid.specs.Layer.{layerOf};
-ghost use Rattle.table.specs.Stores.{slid, without};
+ghost use Rattle.table.specs.Stores.{slid, without, pinned};
 ghost use Rattle.held.specs.Questions.{Accepted};
-ghost use Rattle.edit.specs.Edits.{edgeNamed, slideAnswer, removalAnswer};
-ghost use Rattle.edit.specs.Chords.{chordsAnswer, thirdLeft, storedIf, BothMeasurable, Editable, NamedKept};
+ghost use Rattle.edit.specs.Edits.{edgeNamed, slideAnswer, removalAnswer, pinAnswer};
+ghost use Rattle.edit.specs.Chords.{chordsAnswer, thirdLeft, storedIf, BothMeasurable, Editable, NamedKept, Exact};
 
 // Questions 11 and 12 of the two edges that a slide redraws: both cross before either is measured.
 fn ask_chords(
@@ -46,7 +49,7 @@ fn ask_chords(
     Answer::Yes
 }
 
-// Questions 10 to 12 of a slide; a slide keeps the number of kept vertices.
+// Question 16 and 10 to 12 of a slide; a slide keeps the number of kept vertices.
 fn ask_slide(
     size: Size,
     bitmap: &[u8],
@@ -59,6 +62,10 @@ fn ask_slide(
     requires { ⌜ NamedKept (layerOf size (now bitmap)) (now table) stick ⌝ }
     ensures { λ r. ⌜ r ≡ slideAnswer (layerOf size (now (bitmap .entry))) t (now (table .entry)) place stick offset ⌝ }
 {
+    let pinned = carries_pin(size, table, stick);
+    if pinned {
+        return Answer::No(Refusal::VertexPinned, place);
+    }
     if offset < 1 {
         return Answer::No(Refusal::BadOffset, place);
     }
@@ -81,7 +88,7 @@ fn leaves_three(size: Size, bitmap: &[u8], table: &[u16], e: Edge, before: Edge)
     !same_edge(third.stick, before)
 }
 
-// Questions 11 to 13 of a removal.
+// Question 16 and 11 to 13 of a removal.
 fn ask_removal(
     size: Size,
     bitmap: &[u8],
@@ -93,6 +100,10 @@ fn ask_removal(
     requires { ⌜ NamedKept (layerOf size (now bitmap)) (now table) stick ⌝ }
     ensures { λ r. ⌜ r ≡ removalAnswer (layerOf size (now (bitmap .entry))) t (now (table .entry)) place stick ⌝ }
 {
+    let pinned = carries_pin(size, table, stick);
+    if pinned {
+        return Answer::No(Refusal::VertexPinned, place);
+    }
     let e = edge_named(stick);
     let over = joined(size, bitmap, table, e);
     if !crosses_all(size, bitmap, over) {
@@ -153,5 +164,18 @@ pub fn remove(
         return answer;
     };
     table::remove(size, table, edge_named(stick));
+    Answer::Yes
+}
+
+// A pin: question 9 alone, whatever the samples are. The entry keeps the offset.
+pub fn pin(size: Size, table: &mut [u16], place: usize, stick: Named) -> Answer
+    requires { ⌜ Exact size (now table) ⌝ }
+    ensures { λ r. ⌜ ((bitmap : List ℕ) → r ≡ pinAnswer (layerOf size bitmap) (now (table .entry)) place stick) ⌝ }
+    ensures { λ r. ⌜ ((bitmap : List ℕ) → now (table .exit) ≡ storedIf r (now (table .entry)) (pinned (layerOf size bitmap) (now (table .entry)) (edgeNamed stick))) ⌝ }
+{
+    if !carries_kept(size, table, stick) {
+        return Answer::No(Refusal::NoKeptVertex, place);
+    }
+    table::pin(size, table, edge_named(stick));
     Answer::Yes
 }

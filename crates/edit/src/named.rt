@@ -1,15 +1,17 @@
-// The stick that an edit names, and question 9: it lies in the grid and carries a kept vertex.
+// The stick that an edit names, question 9: it lies in the grid and carries a kept vertex, and question 16: whether that is pinned.
 use grid::Edge;
 use grid::Size;
 use grid::edge_columns;
 use grid::edge_rows;
 use table::entry_at;
 use table::is_kept;
+use table::is_pinned;
 ghost use mathlib.Core.Path.{_≡_};
 ghost use Rattle.grid.specs.Edges.{inGrid};
 ghost use Rattle.grid.specs.Questions.{Sized};
+ghost use Rattle.table.specs.Lent.{HasEntry};
 ghost use Rattle.edit.specs.Edits.{edgeNamed};
-ghost use Rattle.edit.specs.Chords.{namesKept, Exact};
+ghost use Rattle.edit.specs.Chords.{namesKept, namesPinned, Exact};
 
 // A stick as a command names it; it may lie outside the grid.
 pub struct Named {
@@ -51,4 +53,12 @@ pub fn carries_kept(size: Size, table: &[u16], stick: Named) -> bool
         return false;
     }
     is_kept(entry_at(size, table, e))
+}
+
+// Question 16, after a yes to 9.
+pub fn carries_pin(size: Size, table: &[u16], stick: Named) -> bool
+    requires { ⌜ HasEntry size (now table) (edgeNamed stick) ⌝ }
+    ensures { λ r. ⌜ r ≡ namesPinned size (now (table .entry)) stick ⌝ }
+{
+    is_pinned(entry_at(size, table, edge_named(stick)))
 }
