@@ -1,4 +1,4 @@
--- The paper's cases on edit rolls, by running the definitions.
+-- The paper's cases on edit rolls, and Note 5's, by running the definitions.
 use mathlib.Core.Path.{_≡_, refl}
 use mathlib.Core.Bool.{xor}
 use mathlib.Core.List.{List, [], _∷_}
@@ -13,7 +13,7 @@ use Rattle.step.specs.Walk.{next, prev}
 use Rattle.contour.specs.Walk.{firstsAmong}
 use Rattle.chord.specs.Crossing.{off, parted, crosses, slidesWithin}
 use Rattle.table.specs.Entries.{entryOf, entriesAnswer, tableLengthAnswer}
-use Rattle.table.specs.Vertices.{keptAt, removedAt, offsetAt}
+use Rattle.table.specs.Vertices.{keptAt, removedAt, pinnedAt, offsetAt}
 use Rattle.drawn.specs.Neighbours.{removedFrom, keptFrom}
 use Rattle.drawn.specs.Drawn.{edgeCrosses}
 use Rattle.held.specs.Held.{heldContour, heldAnswer}
@@ -40,7 +40,7 @@ middle n =
 -- all that has to be open for a roll to run: a case says `unfolding run`
 unfoldable run : Layer → ℕ → List ℕ → List ℕ → Outcome
 unfolding rollOf sidesAnswer lengthAnswer spareAnswer borderAnswer tableLengthAnswer entriesAnswer heldAnswer heldContour edgeCrosses edgeWithin
-    firstsAmong number edgeCount edgeAt isStick sample bit next prev xor leastFrom keptAt removedAt offsetAt removedFrom keptFrom entryOf
+    firstsAmong number edgeCount edgeAt isStick sample bit next prev xor leastFrom keptAt removedAt pinnedAt offsetAt removedFrom keptFrom entryOf
     off parted crosses slidesWithin
 run L tolerance r t = rollOf L tolerance r t
 
@@ -84,3 +84,32 @@ end-alone = refl
 pub empty-roll : rollAnswer [] ≡ No Malformed 0
 unfolding rollAnswer
 empty-roll = refl
+
+-- Note 5, on the lower middle vertex of the bar: P "pins a kept vertex", and "A pin on an already pinned vertex is done and alters nothing."
+abbrev pinThen : List ℕ → List ℕ
+pinThen r = 0x50 ∷ 1 ∷ 2 ∷ 0 ∷ 0 ∷ 0 ∷ r
+
+pub pinned-twice : rollOf bar 0 (pinThen (pinThen (0x45 ∷ []))) (middle 128) ≡ record { refusal = 0; place = 0; done = 2; table = middle 640 }
+unfolding run
+pinned-twice = refl
+
+-- "16, a slide or removal of a pinned vertex, after question 9 and before 10, with the command's byte offset and the count done": of the slide
+-- and removal from above, and of a slide to 0
+pub pinned-slide : rollOf bar 255 (pinThen slideAndRemove) (middle 128) ≡ record { refusal = 16; place = 6; done = 1; table = middle 640 }
+unfolding run
+pinned-slide = refl
+
+pub pinned-slide-to-zero : rollOf single 0 (slideTo 0) (entries 640 128 128 128)
+    ≡ record { refusal = 16; place = 0; done = 0; table = entries 640 128 128 128 }
+unfolding run
+pinned-slide-to-zero = refl
+
+pub pinned-removal : rollOf bar 255 (0x58 ∷ 1 ∷ 2 ∷ 0 ∷ 0 ∷ 0 ∷ 0x45 ∷ []) (middle 652)
+    ≡ record { refusal = 16; place = 0; done = 0; table = middle 652 }
+unfolding run
+pinned-removal = refl
+
+-- a removed vertex gives 9, to a pin as to a slide: it has none
+pub removed-not-pinned : rollOf bar 0 (pinThen (0x45 ∷ [])) (middle 396) ≡ record { refusal = 9; place = 0; done = 0; table = middle 396 }
+unfolding run
+removed-not-pinned = refl

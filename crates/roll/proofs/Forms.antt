@@ -12,7 +12,7 @@ use Rattle.grid.specs.declared.question.Refusal.the-variants.{Malformed}
 use Rattle.grid.specs.declared.question.Answer.{Answer}
 use Rattle.grid.specs.declared.question.Answer.the-variants.{No}
 use Rattle.edit.specs.Edits.{Named, askAt}
-use Rattle.roll.specs.Commands.{Command, slides, removes, ends, wrong, namedAt, commandAt, wellFormed, formedFrom, rollAnswer}
+use Rattle.roll.specs.Commands.{Command, slides, removes, pins, ends, wrong, namedAt, commandAt, wellFormed, formedFrom, rollAnswer}
 
 module _ (r : List ℕ) (i : ℕ) where
   -- the command at i, by its byte
@@ -28,11 +28,17 @@ module _ (r : List ℕ) (i : ℕ) where
   pub at-removal-cut : getD r i 0 ≡ 0x58 → length r < i + 6 → commandAt r i ≡ wrong
   at-removal-cut b h = rw (b, lt-leb (i + 6) (length r) h)
 
+  pub at-pin : getD r i 0 ≡ 0x50 → i + 6 ≤ length r → commandAt r i ≡ pins (namedAt r (i + 1))
+  at-pin b h = rw (b, le-leb (i + 6) (length r) h)
+
+  pub at-pin-cut : getD r i 0 ≡ 0x50 → length r < i + 6 → commandAt r i ≡ wrong
+  at-pin-cut b h = rw (b, lt-leb (i + 6) (length r) h)
+
   pub at-end : getD r i 0 ≡ 0x45 → i < length r → commandAt r i ≡ ends
   at-end b h = rw (b, le-leb (i + 1) (length r) (omega arith))
 
-  pub at-other : getD r i 0 ≢ 0x53 → getD r i 0 ≢ 0x58 → getD r i 0 ≢ 0x45 → commandAt r i ≡ wrong
-  at-other s x e = rw (ne-eqb (getD r i 0) 0x53 s, ne-eqb (getD r i 0) 0x58 x, ne-eqb (getD r i 0) 0x45 e)
+  pub at-other : getD r i 0 ≢ 0x53 → getD r i 0 ≢ 0x58 → getD r i 0 ≢ 0x50 → getD r i 0 ≢ 0x45 → commandAt r i ≡ wrong
+  at-other s x p e = rw (ne-eqb (getD r i 0) 0x53 s, ne-eqb (getD r i 0) 0x58 x, ne-eqb (getD r i 0) 0x50 p, ne-eqb (getD r i 0) 0x45 e)
 
   pub at-none : length r ≤ i → commandAt r i ≡ wrong
   at-none h = rw (List·getD-eq-default r 0 h)
@@ -42,6 +48,7 @@ abbrev step : List ℕ → ℕ → (ℕ → Answer) → Command → Answer
 step r i later c = elim c [
   | slides stick offset ↦ later (i + 7)
   | removes stick ↦ later (i + 6)
+  | pins stick ↦ later (i + 6)
   | ends ↦ askAt (i + 1) Malformed (eqb (i + 1) (length r))
   | wrong ↦ No Malformed i
 ]
@@ -50,6 +57,7 @@ step-same : (r : List ℕ) (i : ℕ) (c : Command) (f g : ℕ → Answer) → f 
     → step r i f c ≡ step r i g c
 step-same r i (slides s o) f g h k = h
 step-same r i (removes s) f g h k = k
+step-same r i (pins s) f g h k = k
 step-same r i ends f g h k = refl
 step-same r i wrong f g h k = refl
 
@@ -78,6 +86,9 @@ module _ (r : List ℕ) where
 
     pub formed-removal : {s : Named} → commandAt r i ≡ removes s → formedFrom r (i + 6) ≡ formedFrom r i
     formed-removal e = sym (formed-step ∙ ap (step r i (formedFrom r)) e)
+
+    pub formed-pin : {s : Named} → commandAt r i ≡ pins s → formedFrom r (i + 6) ≡ formedFrom r i
+    formed-pin e = sym (formed-step ∙ ap (step r i (formedFrom r)) e)
 
     pub formed-end : commandAt r i ≡ ends → askAt (i + 1) Malformed (eqb (i + 1) (length r)) ≡ formedFrom r i
     formed-end e = sym (formed-step ∙ ap (step r i (formedFrom r)) e)

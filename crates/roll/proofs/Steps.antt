@@ -13,17 +13,17 @@ use Rattle.grid.specs.declared.question.Refusal.the-variants.{Malformed}
 use Rattle.grid.specs.declared.question.Answer.{Answer}
 use Rattle.grid.specs.declared.question.Answer.the-variants.{Yes, No}
 use Rattle.grid.proofs.Answers.{no-not-yes}
-use Rattle.table.specs.Stores.{slid, without}
+use Rattle.table.specs.Stores.{slid, without, pinned}
 use Rattle.held.specs.Questions.{Accepted}
 use Rattle.roll.specs.declared.rolling.Step.{Step}
 use Rattle.roll.specs.declared.rolling.Step.the-variants.{On, End, Stop}
-use Rattle.roll.specs.Commands.{Command, slides, removes, ends, wrong, namedAt, commandAt, formedFrom}
-use Rattle.edit.specs.Edits.{Named, edgeNamed, slideAnswer, removalAnswer}
+use Rattle.roll.specs.Commands.{Command, slides, removes, pins, ends, wrong, namedAt, commandAt, formedFrom}
+use Rattle.edit.specs.Edits.{Named, edgeNamed, slideAnswer, removalAnswer, pinAnswer}
 use Rattle.edit.specs.Chords.{storedIf}
-use Rattle.roll.specs.Steps.{Stepped, stepped, stepOn, stepBy, slideStep, removalStep, stepOf, Runnable, Readable}
+use Rattle.roll.specs.Steps.{Stepped, stepped, stepOn, stepBy, slideStep, removalStep, pinStep, stepOf, Runnable, Readable}
 use Rattle.roll.specs.Roll.{Outcome, runFrom}
-use Rattle.roll.proofs.Forms.{formed-slide, formed-removal, formed-wrong, at-slide, at-slide-cut, at-removal, at-removal-cut, at-end, at-none}
-use Rattle.edit.proofs.Asked.{slide-keeps, removal-keeps}
+use Rattle.roll.proofs.Forms.{formed-slide, formed-removal, formed-pin, formed-wrong, at-slide, at-slide-cut, at-removal, at-removal-cut, at-pin, at-pin-cut, at-end, at-none}
+use Rattle.edit.proofs.Asked.{slide-keeps, removal-keeps, pin-keeps}
 
 -- A step from an answer and a store
 
@@ -52,6 +52,11 @@ module _ (L : Layer) (tolerance i : ℕ) (t : List ℕ) {r : Step} {u : List ℕ
   removal-step asked e stored =
       step-made (λ y. removalAnswer L tolerance t i y) (λ y. without L t (edgeNamed y)) (i + 6) t same asked e stored
 
+pub pin-step : (L : Layer) (i : ℕ) (t : List ℕ) {r : Step} {u : List ℕ} {x : Answer} {s s′ : Named} → s′ ≡ s
+    → x ≡ pinAnswer L t i s′ → r ≡ stepOn x (i + 6) → u ≡ storedIf x t (pinned L t (edgeNamed s′)) → stepped r u ≡ pinStep L i t s
+unfolding pinStep
+pin-step L i t same asked e stored = step-made (λ y. pinAnswer L t i y) (λ y. pinned L t (edgeNamed y)) (i + 6) t same asked e stored
+
 -- The command at a byte of a roll that passes question 8 from there on
 
 module _ (r : List ℕ) (i : ℕ) (formed : formedFrom r i ≡ Yes) where
@@ -67,11 +72,15 @@ module _ (r : List ℕ) (i : ℕ) (formed : formedFrom r i ≡ Yes) where
   removal-whole : getD r i 0 ≡ 0x58 → i + 6 ≤ length r
   removal-whole b = elim (decLt (length r) (i + 6)) [ yes h ↦ absurd (not-wrong (at-removal-cut r i b h)) | no h ↦ omega arith ]
 
+  pin-whole : getD r i 0 ≡ 0x50 → i + 6 ≤ length r
+  pin-whole b = elim (decLt (length r) (i + 6)) [ yes h ↦ absurd (not-wrong (at-pin-cut r i b h)) | no h ↦ omega arith ]
+
 module _ (L : Layer) (tolerance : ℕ) (r : List ℕ) (i : ℕ) (t : List ℕ) where
   abbrev by-command : Command → Stepped
   by-command c = elim c [
     | slides s o ↦ slideStep L tolerance i t s o
     | removes s ↦ removalStep L tolerance i t s
+    | pins s ↦ pinStep L i t s
     | ends ↦ stepped End t
     | wrong ↦ stepped (Stop Malformed i) t
   ]
@@ -89,12 +98,18 @@ module _ {L : Layer} {t r : List ℕ} {i : ℕ} (k : Runnable L t r i) where
   pub removal-readable : getD r i 0 ≡ 0x58 → Readable L t r i 6
   removal-readable b = record { accepted = k .accepted; whole = removal-whole r i (k .formed) b }
 
+  pub pin-readable : getD r i 0 ≡ 0x50 → Readable L t r i 6
+  pin-readable b = record { accepted = k .accepted; whole = pin-whole r i (k .formed) b }
+
   module _ (tolerance : ℕ) where
     pub slide-here : getD r i 0 ≡ 0x53 → slideStep L tolerance i t (namedAt r (i + 1)) (getD r (i + 6) 0) ≡ stepOf L tolerance r i t
     slide-here b = step-is L tolerance r i t (at-slide r i b (slide-whole r i (k .formed) b))
 
     pub removal-here : getD r i 0 ≡ 0x58 → removalStep L tolerance i t (namedAt r (i + 1)) ≡ stepOf L tolerance r i t
     removal-here b = step-is L tolerance r i t (at-removal r i b (removal-whole r i (k .formed) b))
+
+    pub pin-here : getD r i 0 ≡ 0x50 → pinStep L i t (namedAt r (i + 1)) ≡ stepOf L tolerance r i t
+    pin-here b = step-is L tolerance r i t (at-pin r i b (pin-whole r i (k .formed) b))
 
     pub end-here : getD r i 0 ≡ 0x45 → stepped End t ≡ stepOf L tolerance r i t
     end-here b = step-is L tolerance r i t (at-end r i b (formed-below r i (k .formed)))
@@ -113,6 +128,7 @@ module _ (L : Layer) (tolerance : ℕ) (r : List ℕ) where
   run-by i done t later c = elim c [
     | slides s o ↦ ifAllYes (slideAnswer L tolerance t i s o) (refused done t) (later (i + 7) (slid L t (edgeNamed s) o))
     | removes s ↦ ifAllYes (removalAnswer L tolerance t i s) (refused done t) (later (i + 6) (without L t (edgeNamed s)))
+    | pins s ↦ ifAllYes (pinAnswer L t i s) (refused done t) (later (i + 6) (pinned L t (edgeNamed s)))
     | ends ↦ stopped done t
     | wrong ↦ stopped done t
   ]
@@ -124,6 +140,7 @@ module _ (L : Layer) (tolerance : ℕ) (r : List ℕ) where
       ap (ifAllYes (slideAnswer L tolerance t i s o) (refused done t)) (h (slid L t (edgeNamed s) o))
   run-same i done t f g h k (removes s) =
       ap (ifAllYes (removalAnswer L tolerance t i s) (refused done t)) (k (without L t (edgeNamed s)))
+  run-same i done t f g h k (pins s) = ap (ifAllYes (pinAnswer L t i s) (refused done t)) (k (pinned L t (edgeNamed s)))
   run-same i done t f g h k ends = refl
   run-same i done t f g h k wrong = refl
 
@@ -159,7 +176,7 @@ module _ (L : Layer) (tolerance : ℕ) (r : List ℕ) where
   ran-first i done t = run-fuel (length r + 1) (suc (length r + 1)) i done t (omega arith) (omega arith)
 
   pub ran-step : (i done : ℕ) (t : List ℕ) → formedFrom r i ≡ Yes → ranFrom i done t ≡ ran-after done (stepOf L tolerance r i t)
-  unfolding slideStep removalStep
+  unfolding slideStep removalStep pinStep
   ran-step i done t formed = ran-first i done t ∙ go (commandAt r i) refl
     where
       by : (answer : Answer) (j : ℕ) (t′ : List ℕ)
@@ -174,6 +191,9 @@ module _ (L : Layer) (tolerance : ℕ) (r : List ℕ) where
           ∙ ap (ran-after done) (step-is L tolerance r i t e)
       go (removes s) e =
           ap (run-by i done t (λ j u. ranFrom j (done + 1) u)) e ∙ by (removalAnswer L tolerance t i s) (i + 6) (without L t (edgeNamed s))
+          ∙ ap (ran-after done) (step-is L tolerance r i t e)
+      go (pins s) e =
+          ap (run-by i done t (λ j u. ranFrom j (done + 1) u)) e ∙ by (pinAnswer L t i s) (i + 6) (pinned L t (edgeNamed s))
           ∙ ap (ran-after done) (step-is L tolerance r i t e)
       go ends e = ap (run-by i done t (λ j u. ranFrom j (done + 1) u)) e ∙ ap (ran-after done) (step-is L tolerance r i t e)
       go wrong e = absurd (not-wrong r i formed e)
@@ -199,7 +219,7 @@ module _ {j : ℕ} {t′ : List ℕ} where
 
   step-on : (L : Layer) (tolerance : ℕ) (r : List ℕ) (i : ℕ) (t : List ℕ) → Runnable L t r i
       → stepOf L tolerance r i t ≡ stepped (On j) t′ → WentOn L r i j t′
-  unfolding slideStep removalStep
+  unfolding slideStep removalStep pinStep
   step-on L tolerance r i t k h = go (commandAt r i) refl
     where
       made : (answer : Answer) (after : ℕ) (u : List ℕ) → stepBy answer after t u ≡ stepped (On j) t′ → i < after
@@ -221,6 +241,9 @@ module _ {j : ℕ} {t′ : List ℕ} where
       go (removes s) e =
           made (removalAnswer L tolerance t i s) (i + 6) (without L t (edgeNamed s)) (step-is L tolerance r i t e ∙ h) (omega arith)
           (removal-keeps L tolerance t i s (k .accepted)) (formed-removal r i e)
+      go (pins s) e =
+          made (pinAnswer L t i s) (i + 6) (pinned L t (edgeNamed s)) (step-is L tolerance r i t e ∙ h) (omega arith)
+          (pin-keeps L t i s (k .accepted)) (formed-pin r i e)
       go ends e = absurd (end-not-on (ap (λ (x : Stepped). x .step) (step-is L tolerance r i t e ∙ h)))
       go wrong e = absurd (not-wrong r i (k .formed) e)
 

@@ -1,5 +1,6 @@
 -- The commands of an edit roll, and question 8: "S (hex 53) and a stick and an offset byte slides; X (hex 58) and a stick removes; E (hex
--- 45) ends the roll. A stick is kind (1 byte), column, row (16 bits each, low byte first)."
+-- 45) ends the roll. A stick is kind (1 byte), column, row (16 bits each, low byte first)." "A roll gains P (hex 50) and a stick, which pins a
+-- kept vertex" (Note 5).
 use mathlib.Core.Bool.{cond}
 use mathlib.Core.List.{List}
 use Prim.Native.Nat.{ℕ, zero, suc, _+_, _*_}
@@ -13,6 +14,7 @@ use Rattle.edit.specs.Edits.{Named, askAt}
 pub data Command : Type 0 where
   slides : Named → ℕ → Command
   removes : Named → Command
+  pins : Named → Command
   ends : Command
   wrong : Command
 
@@ -27,6 +29,7 @@ namedAt r i = record { kind = getD r i 0; column = twoBytes r (i + 1); row = two
 abbrev pub width : Command → ℕ
 width (slides stick offset) = 7
 width (removes stick) = 6
+width (pins stick) = 6
 width ends = 1
 width wrong = 0
 
@@ -39,8 +42,9 @@ abbrev pub commandAt : List ℕ → ℕ → Command
 commandAt r i =
     cond (eqb (getD r i 0) 0x53) (whole r i (slides (namedAt r (i + 1)) (getD r (i + 6) 0)))
     (cond (eqb (getD r i 0) 0x58) (whole r i (removes (namedAt r (i + 1))))
+    (cond (eqb (getD r i 0) 0x50) (whole r i (pins (namedAt r (i + 1))))
     (cond (eqb (getD r i 0) 0x45) (whole r i ends)
-    wrong))
+    wrong)))
 
 -- "8. Is the roll or sheet well formed to its last byte? (start of the first command that is wrong, cut short, missing or extra)": the n
 -- commands from i on at most; each has a byte or more, so there are no more of them than bytes
@@ -49,6 +53,7 @@ wellFormed r zero i = No Malformed i
 wellFormed r (suc n) i = elim (commandAt r i) [
   | slides stick offset ↦ wellFormed r n (i + 7)
   | removes stick ↦ wellFormed r n (i + 6)
+  | pins stick ↦ wellFormed r n (i + 6)
   | ends ↦ askAt (i + 1) Malformed (eqb (i + 1) (length r))
   | wrong ↦ No Malformed i
 ]

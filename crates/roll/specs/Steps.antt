@@ -8,12 +8,12 @@ use Rattle.grid.specs.Questions.{ifAllYes}
 use Rattle.grid.specs.declared.question.Refusal.the-variants.{Malformed}
 use Rattle.grid.specs.declared.question.Answer.{Answer}
 use Rattle.grid.specs.declared.question.Answer.the-variants.{Yes}
-use Rattle.table.specs.Stores.{slid, without}
+use Rattle.table.specs.Stores.{slid, without, pinned}
 use Rattle.held.specs.Questions.{Accepted}
 use Rattle.roll.specs.declared.rolling.Step.{Step}
 use Rattle.roll.specs.declared.rolling.Step.the-variants.{On, End, Stop}
-use Rattle.roll.specs.Commands.{commandAt, formedFrom, slides, removes, ends, wrong}
-use Rattle.edit.specs.Edits.{Named, edgeNamed, slideAnswer, removalAnswer}
+use Rattle.roll.specs.Commands.{commandAt, formedFrom, slides, removes, pins, ends, wrong}
+use Rattle.edit.specs.Edits.{Named, edgeNamed, slideAnswer, removalAnswer, pinAnswer}
 
 pub record Stepped : Type 0 where
   pub step : Step
@@ -37,11 +37,15 @@ module _ (L : Layer) (tolerance i : ℕ) (t : List ℕ) where
   unfoldable pub removalStep : Named → Stepped
   removalStep s = stepBy (removalAnswer L tolerance t i s) (i + 6) t (without L t (edgeNamed s))
 
+unfoldable pub pinStep : Layer → ℕ → List ℕ → Named → Stepped
+pinStep L i t s = stepBy (pinAnswer L t i s) (i + 6) t (pinned L t (edgeNamed s))
+
 -- the command at byte i
 unfoldable pub stepOf : Layer → ℕ → List ℕ → ℕ → List ℕ → Stepped
 stepOf L tolerance r i t = elim (commandAt r i) [
   | slides s o ↦ slideStep L tolerance i t s o
   | removes s ↦ removalStep L tolerance i t s
+  | pins s ↦ pinStep L i t s
   | ends ↦ stepped End t
   | wrong ↦ stepped (Stop Malformed i) t
 ]

@@ -67,6 +67,7 @@ pub fn ask_roll(roll: &[u8]) -> Answer
         let width = match byte {
             b'S' => 7,
             b'X' => 6,
+            b'P' => 6,
             b'E' => return ask_last(length, at),
             _ => return Answer::No(Refusal::Malformed, at),
         };

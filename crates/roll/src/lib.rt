@@ -1,4 +1,4 @@
-// The public call Roll: an edit roll of one-byte commands, each of which slides or removes one vertex of a held layer.
+// The public call Roll: an edit roll of one-byte commands, each of which slides, removes or pins one vertex of a held layer.
 mod command;
 mod rolling;
 

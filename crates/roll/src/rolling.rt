@@ -1,6 +1,7 @@
 // The public call Roll: questions 1 to 8, then the commands one after the other.
 use super::command::ask_roll;
 use super::command::named_at;
+use edit::pin;
 use edit::remove;
 use edit::slide;
 use grid::Answer;
@@ -15,7 +16,7 @@ ghost use Rattle.grid.specs.Questions.{firstNo};
 ghost use Rattle.held.specs.Questions.{heldQuestions};
 ghost use Rattle.roll.specs.Commands.{namedAt, rollAnswer};
 ghost use Rattle.roll.specs.Roll.{outcome, runFrom, rollOf};
-ghost use Rattle.roll.specs.Steps.{stepped, stepOn, slideStep, removalStep, stepOf, Runnable, Readable};
+ghost use Rattle.roll.specs.Steps.{stepped, stepOn, slideStep, removalStep, pinStep, stepOf, Runnable, Readable};
 
 // Roll's answer: the commands done, or refused with the question, its place and the commands done before.
 pub enum Rolled {
@@ -60,7 +61,15 @@ fn remove_at(size: Size, bitmap: &[u8], table: &mut [u16], roll: &[u8], at: usiz
     step_after(remove(size, bitmap, table, at, stick, t), at + 6)
 }
 
-// The command at a byte. After question 8 it is one of the three.
+fn pin_at(size: Size, bitmap: &[u8], table: &mut [u16], roll: &[u8], at: usize) -> Step
+    requires { ⌜ Readable (layerOf size (now bitmap)) (now table) (now roll) at 6 ⌝ }
+    ensures { λ r. ⌜ stepped r (now (table .exit)) ≡ pinStep (layerOf size (now (bitmap .entry))) at (now (table .entry)) (namedAt (now (roll .entry)) (at + 1)) ⌝ }
+{
+    let stick = named_at(roll, at + 1);
+    step_after(pin(size, table, at, stick), at + 6)
+}
+
+// The command at a byte. After question 8 it is one of the four.
 fn run_command(size: Size, bitmap: &[u8], table: &mut [u16], roll: &[u8], at: usize, t: u8) -> Step
     requires { ⌜ Runnable (layerOf size (now bitmap)) (now table) (now roll) at ⌝ }
     ensures { λ r. ⌜ stepped r (now (table .exit)) ≡ stepOf (layerOf size (now (bitmap .entry))) t (now (roll .entry)) at (now (table .entry)) ⌝ }
@@ -69,6 +78,7 @@ fn run_command(size: Size, bitmap: &[u8], table: &mut [u16], roll: &[u8], at: us
     match byte {
         b'S' => slide_at(size, bitmap, table, roll, at, t),
         b'X' => remove_at(size, bitmap, table, roll, at, t),
+        b'P' => pin_at(size, bitmap, table, roll, at),
         b'E' => Step::End,
         _ => Step::Stop(Refusal::Malformed, at),
     }

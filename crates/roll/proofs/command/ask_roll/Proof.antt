@@ -6,7 +6,7 @@ use Prim.Native.Nat.{_-_, _≤_}
 use native.Mathlib.Omega.{arith}
 use borrow.Author.Needs.{needs}
 use Rattle.roll.specs.Commands.{formedFrom, rollAnswer}
-use Rattle.roll.proofs.Forms.{formed-all, formed-slide, formed-removal, formed-end, formed-wrong, at-slide, at-slide-cut, at-removal, at-removal-cut, at-end, at-other, at-none}
+use Rattle.roll.proofs.Forms.{formed-all, formed-slide, formed-removal, formed-pin, formed-end, formed-wrong, at-slide, at-slide-cut, at-removal, at-removal-cut, at-pin, at-pin-cut, at-end, at-other, at-none}
 use Rattle.roll.proofs.command.ask_roll.Statement.{statement}
 use Rattle.roll.proofs.command.ask_roll.Tie as tie
 
@@ -24,7 +24,7 @@ returns c =
     let turn = c .before .before .before in
     let loop = turn .before .loop in
     let r = turn .before .before .before .args .roll .now in
-    c .ask-last .ensures ∙ formed-end r (loop .at) (at-end r (loop .at) (c .before .match .keys3) (turn .loop-test .taken)) ∙ loop .inv .1
+    c .ask-last .ensures ∙ formed-end r (loop .at) (at-end r (loop .at) (c .before .match .keys4) (turn .loop-test .taken)) ∙ loop .inv .1
 
 returns-2 : tie.Need-returns-2 Inv-loop μ-loop
 returns-2 c =
@@ -32,7 +32,7 @@ returns-2 c =
     let at = at-loop .loop .at in
     let r = at-loop .before .before .args .roll .now in
     let rest = c .match .rest in
-    formed-wrong r at (at-other r at (rest .0 .0 .1) (rest .0 .1) (rest .1)) ∙ at-loop .loop .inv .1
+    formed-wrong r at (at-other r at (rest .0 .0 .0 .1) (rest .0 .0 .1) (rest .0 .1) (rest .1)) ∙ at-loop .loop .inv .1
 
 returns-3 : tie.Need-returns-3 Inv-loop μ-loop
 returns-3 c =
@@ -43,12 +43,17 @@ returns-3 c =
     let short = c .if1 .taken in
     formed-wrong r at (elim (c .before .match .came) [
       | inl w ↦ at-slide-cut r at (w .0 .keys1) (omega (arith, w .1))
-      | inr w ↦ at-removal-cut r at (w .0 .keys2) (omega (arith, w .1))
+      | inr (inl w) ↦ at-removal-cut r at (w .0 .keys2) (omega (arith, w .1))
+      | inr (inr w) ↦ at-pin-cut r at (w .0 .keys3) (omega (arith, w .1))
     ]) ∙ at-loop .loop .inv .1
 
 loop-less : tie.Need-loop-less Inv-loop μ-loop
 loop-less c =
-    elim (c .before .before .match .came) [ inl w ↦ omega (arith, w .1) | inr w ↦ omega (arith, w .1) ]
+    elim (c .before .before .match .came) [
+      | inl w ↦ omega (arith, w .1)
+      | inr (inl w) ↦ omega (arith, w .1)
+      | inr (inr w) ↦ omega (arith, w .1)
+    ]
 
 loop-again : tie.Need-loop-again Inv-loop μ-loop
 loop-again c =
@@ -60,7 +65,8 @@ loop-again c =
       omega arith,
       elim (arm .match .came) [
         | inl w ↦ rw (w .1) (formed-slide r at (at-slide r at (w .0 .keys1) (omega (arith, w .1)))) ∙ at-loop .loop .inv .1
-        | inr w ↦ rw (w .1) (formed-removal r at (at-removal r at (w .0 .keys2) (omega (arith, w .1)))) ∙ at-loop .loop .inv .1
+        | inr (inl w) ↦ rw (w .1) (formed-removal r at (at-removal r at (w .0 .keys2) (omega (arith, w .1)))) ∙ at-loop .loop .inv .1
+        | inr (inr w) ↦ rw (w .1) (formed-pin r at (at-pin r at (w .0 .keys3) (omega (arith, w .1)))) ∙ at-loop .loop .inv .1
       ],
     )
 
