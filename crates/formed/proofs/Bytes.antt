@@ -1,6 +1,6 @@
 -- The bytes of a command, one after the other: whether all of them stand, from the tests of each; and a command that is cut short does not stand.
 use mathlib.Core.Path.{_≡_, refl, sym, _∙_, ap}
-use mathlib.Core.Bool.{Bool, true, false, _&&_, _||_, and-true, and-false, and-assoc}
+use mathlib.Core.Bool.{Bool, true, false, _&&_, and-true, and-false, and-assoc}
 use mathlib.Core.List.{List, [], _∷_, _++_}
 use Prim.Native.Nat.{ℕ, zero, suc, _+_, _/_, _%_, _≤_, _<_}
 use native.Mathlib.Nat.{mod-lt}
@@ -14,7 +14,7 @@ use Rattle.arith.proofs.Booleans.{both-sides, and-split}
 use Rattle.grid.specs.declared.layer.Size.{Size}
 use Rattle.grid.specs.declared.edge.Edge.{Edge}
 use Rattle.sheet.specs.Commands.{twoBytes, kindOf, stickBytes, sizeCommand, contourCommand}
-use Rattle.formed.specs.Expected.{standsAt, vertexAt}
+use Rattle.formed.specs.Expected.{standsAt, vertexLetter, vertexAt}
 
 getD-any : (l : List ℕ) (i d d′ : ℕ) → i < length l → getD l i d ≡ getD l i d′
 getD-any [] i d d′ h = absurd (omega arith)
@@ -107,7 +107,7 @@ module _ (s : List ℕ) where
   pub vertex-short : (i : ℕ) → i ≤ length s → length s < i + 2 → false ≡ vertexAt s i
   vertex-short i w short =
       let none : getD s (i + 1) 0 ≡ 0 = List·getD-eq-default s 0 {n = i + 1} (omega arith) in
-      rw (none, and-false (eqb (getD s i 0) 0x4B || eqb (getD s i 0) 0x52))
+      rw (none, and-false (vertexLetter (getD s i 0)))
 
   pub vertex-room : (i : ℕ) → i ≤ length s → vertexAt s i ≡ true → i + 2 ≤ length s
   vertex-room i w e = elim (decLt (length s) (i + 2)) [

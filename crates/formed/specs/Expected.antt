@@ -13,7 +13,7 @@ use Rattle.grid.specs.declared.question.Answer.the-variants.{Yes, No}
 use Rattle.contour.specs.Contours.{contourOf, firstSticks}
 use Rattle.sheet.specs.Commands.{sizeCommand, contourCommand, endCommand}
 
--- an expected command: these bytes, or the vertex of a stick, K or R and an offset
+-- an expected command: these bytes, or the vertex of a stick, K, R or N and an offset
 pub data Expected : Type 0 where
   these : List ℕ → Expected
   vertexOf : Edge → Expected
@@ -28,10 +28,14 @@ abbrev pub standsAt : List ℕ → ℕ → List ℕ → Bool
 standsAt s i [] = true
 standsAt s i (b ∷ l) = eqb (getD s i 256) b && standsAt s (i + 1) l
 
--- a vertex command stands at i, whole: K or R and an offset. "Reading a sheet .. treats an offset of 0 as 8", and past the end every byte
+-- "K (hex 4B, kept) or R (hex 52, removed)", or "N (hex 4E)" (Note 5)
+abbrev pub vertexLetter : ℕ → Bool
+vertexLetter b = eqb b 0x4B || eqb b 0x52 || eqb b 0x4E
+
+-- a vertex command stands at i, whole: its letter and an offset. "Reading a sheet .. treats an offset of 0 as 8", and past the end every byte
 -- reads as 0.
 abbrev pub vertexAt : List ℕ → ℕ → Bool
-vertexAt s i = (eqb (getD s i 0) 0x4B || eqb (getD s i 0) 0x52) && ltb 0 (getD s (i + 1) 0)
+vertexAt s i = vertexLetter (getD s i 0) && ltb 0 (getD s (i + 1) 0)
 
 -- the expected command stands at i, whole
 abbrev pub isAt : List ℕ → ℕ → Expected → Bool

@@ -9,7 +9,7 @@ ghost use mathlib.Core.Path.{_≡_};
 ghost use Prim.Native.Nat.{_+_, _≤_, _<_};
 ghost use lib.ListN.{length};
 ghost use Rattle.sheet.specs.Commands.{twoBytes, sizeCommand, contourCommand, endCommand};
-ghost use Rattle.formed.specs.Expected.{standsAt, vertexAt};
+ghost use Rattle.formed.specs.Expected.{standsAt, vertexLetter, vertexAt};
 
 fn widen(x: u8) -> usize
     ensures { λ r. ⌜ r ≡ x ⌝ }
@@ -64,7 +64,19 @@ pub fn has_contour(sheet: &[u8], i: usize, f: Edge) -> bool
     has_number(sheet, i + 4, f.row)
 }
 
-// Whether a vertex command stands at i: K or R, and an offset that is not 0.
+// Whether a byte is the letter of a vertex command.
+fn is_vertex_letter(b: u8) -> bool
+    ensures { λ r. ⌜ r ≡ vertexLetter b ⌝ }
+{
+    match b {
+        b'K' => true,
+        b'R' => true,
+        b'N' => true,
+        _ => false,
+    }
+}
+
+// Whether a vertex command stands at i: its letter, and an offset that is not 0.
 pub fn has_vertex(sheet: &[u8], i: usize) -> bool
     requires { ⌜ i ≤ length (now sheet) ⌝ }
     ensures { λ r. ⌜ r ≡ vertexAt (now (sheet .entry)) i ⌝ }
@@ -72,11 +84,8 @@ pub fn has_vertex(sheet: &[u8], i: usize) -> bool
     if sheet.len() - i < VERTEX_BYTES {
         return false;
     }
-    let letter = sheet[i];
-    if letter != b'K' {
-        if letter != b'R' {
-            return false;
-        }
+    if !is_vertex_letter(sheet[i]) {
+        return false;
     }
     0 < sheet[i + 1]
 }

@@ -16,7 +16,7 @@ use Rattle.contour.proofs.Theorems.{total-length, AllSticks, head-stick, tail-s
 use Rattle.table.specs.Entries.{suits, entriesAnswer}
 use Rattle.table.specs.Vertices.{entryAt}
 use Rattle.table.specs.declared.entry.Entry.{Entry}
-use Rattle.table.specs.declared.entry.Entry.the-variants.{Nothing, Kept, Removed, Wrong}
+use Rattle.table.specs.declared.entry.Entry.the-variants.{Nothing, Kept, Removed, Pinned, Wrong}
 use Rattle.table.proofs.Suits.{entry-suits}
 use Rattle.sheet.specs.Commands.{vertexCommand, endCommand}
 use Rattle.sheet.specs.Written.{verticesOf, contourBytes, contoursBytes, allContours, sheetOf}
@@ -26,6 +26,7 @@ two-bytes : (entry : Entry) → suits true entry ≡ true → length (vertexComm
 two-bytes Nothing h = absurd (false≢true h)
 two-bytes (Kept o) h = refl
 two-bytes (Removed o) h = refl
+two-bytes (Pinned o) h = refl
 two-bytes Wrong h = absurd (false≢true h)
 
 -- a sheet is the five bytes of its size command, the contours, and the byte E

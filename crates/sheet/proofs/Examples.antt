@@ -1,5 +1,5 @@
 -- Document 01's sheet, by running the definitions: "W 3, H 3, inside (1,1)" with its vertices kept at 255, 255, 1, 1 in contour order; one
--- of them removed; and an output that is too short for it.
+-- of them removed, or pinned; and an output that is too short for it.
 use mathlib.Core.Path.{_≡_, refl}
 use mathlib.Core.Bool.{xor}
 use mathlib.Core.List.{List, [], _∷_, _++_}
@@ -12,7 +12,7 @@ use Rattle.grid.specs.Questions.{sidesAnswer, lengthAnswer, spareAnswer, border
 use Rattle.step.specs.Walk.{next, prev}
 use Rattle.contour.specs.Walk.{firstsAmong}
 use Rattle.table.specs.Entries.{entryOf, encoded, entriesAnswer, tableLengthAnswer}
-use Rattle.table.specs.declared.entry.Entry.the-variants.{Removed}
+use Rattle.table.specs.declared.entry.Entry.the-variants.{Removed, Pinned}
 use Rattle.table.specs.Vertices.{keptAt, removedAt, offsetAt}
 use Rattle.drawn.specs.Neighbours.{removedFrom, keptFrom}
 use Rattle.drawn.specs.Drawn.{edgeCrosses}
@@ -42,6 +42,11 @@ single-sheet = refl
 pub removed-sheet : sheetOf single (entries 255 1 (encoded (Removed 255)) 1) ≡ set bytes 13 0x52
 unfolding sheetOf firstsAmong number edgeCount edgeAt isStick sample bit next prev xor entryOf
 removed-sheet = refl
+
+-- with it pinned, N
+pub pinned-sheet : sheetOf single (entries 255 1 (encoded (Pinned 255)) 1) ≡ set bytes 13 0x4E
+unfolding sheetOf firstsAmong number edgeCount edgeAt isStick sample bit next prev xor entryOf
+pinned-sheet = refl
 
 -- an output of twenty bytes and one more, and one of nineteen
 abbrev sevens : ℕ → List ℕ

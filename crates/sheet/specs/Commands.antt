@@ -1,12 +1,13 @@
 -- The commands of a sheet as bytes: "L (hex 4C), W, H (16 bits, low byte first); for each contour C (hex 43) and its first stick; for each
--- vertex K (hex 4B, kept) or R (hex 52, removed) and its offset byte; at last E."
+-- vertex K (hex 4B, kept) or R (hex 52, removed) and its offset byte; at last E.", and "the sheet writes N (hex 4E) and the offset for a pinned
+-- one" (Note 5).
 use mathlib.Core.Bool.{Bool, cond}
 use mathlib.Core.List.{List, [], _∷_, _++_}
 use Prim.Native.Nat.{ℕ, _/_, _%_}
 use Rattle.grid.specs.declared.layer.Size.{Size}
 use Rattle.grid.specs.declared.edge.Edge.{Edge}
 use Rattle.table.specs.declared.entry.Entry.{Entry}
-use Rattle.table.specs.declared.entry.Entry.the-variants.{Nothing, Kept, Removed, Wrong}
+use Rattle.table.specs.declared.entry.Entry.the-variants.{Nothing, Kept, Removed, Pinned, Wrong}
 
 -- "16 bits each, low byte first"
 abbrev pub twoBytes : ℕ → List ℕ
@@ -29,6 +30,7 @@ abbrev pub vertexCommand : Entry → List ℕ
 vertexCommand Nothing = []
 vertexCommand (Kept offset) = 0x4B ∷ offset ∷ []
 vertexCommand (Removed offset) = 0x52 ∷ offset ∷ []
+vertexCommand (Pinned offset) = 0x4E ∷ offset ∷ []
 vertexCommand Wrong = []
 
 abbrev pub endCommand : List ℕ

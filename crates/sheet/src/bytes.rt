@@ -70,6 +70,10 @@ pub fn put_vertex(sheet: &mut [u8], at: usize, entry: Entry) -> usize
             put_pair(sheet, at, b'R', offset);
             at + VERTEX_BYTES
         }
+        Entry::Pinned(offset) => {
+            put_pair(sheet, at, b'N', offset);
+            at + VERTEX_BYTES
+        }
         Entry::Wrong => at,
     }
 }
