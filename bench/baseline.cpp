@@ -126,7 +126,8 @@ Refusal ask_1_to_5(const Layer &layer, size_t bytes, size_t entries) {
     return entries == layer.edges() ? YES : Refusal{5, 0};
 }
 
-bool is_kept(uint16_t entry) { return 1 <= entry && entry <= 255; }
+bool is_pinned(uint16_t entry) { return 513 <= entry && entry <= 767; }
+bool is_kept(uint16_t entry) { return (1 <= entry && entry <= 255) || is_pinned(entry); }
 bool is_removed(uint16_t entry) { return 257 <= entry && entry <= 511; }
 
 Point vertex(const Stick &stick, uint16_t entry) {
@@ -210,6 +211,7 @@ uint64_t pass(const Contour &contour, uint16_t *table) {
     for (size_t i = 0, n = contour.size(); i < n; i++) {
         const Stick &before = contour[i == 0 ? n - 1 : i - 1], &after = contour[i + 1 == n ? 0 : i + 1];
         uint16_t &entry = table[contour[i].number], old = entry;
+        if (is_pinned(entry)) continue;
         entry = smoothed(vertex(before, table[before.number]), vertex(after, table[after.number]), contour[i], old);
         total += abs(int(entry) - int(old));
     }
@@ -229,7 +231,7 @@ struct Simplifier {
         Point p = vertex(contour[from % n], entry(from)), q = vertex(contour[to % n], entry(to));
         for (size_t i = from + 1; i < to; i++) {
             Meeting m = meeting(p, q, contour[i % n]);
-            if (!crosses(m) || !within(m, entry(i), t)) return false;
+            if (is_pinned(entry(i)) || !crosses(m) || !within(m, entry(i), t)) return false;
         }
         return true;
     }
@@ -278,6 +280,8 @@ struct Roller {
         if (kind > 1 || c >= (kind ? layer.w : layer.w - 1) || r >= (kind ? layer.h - 1 : layer.h)) return 9;
         uint32_t number = layer.number(kind, c, r);
         if (!is_kept(table[number])) return 9;
+        if (command[0] == 'P') return table[number] = 512 + table[number] % 256, 0;
+        if (is_pinned(table[number])) return 16;
         bool slides = command[0] == 'S';
         if (slides && command[6] == 0) return 10;
         const Contour &contour = places.contours[places.contour[number]];
@@ -304,7 +308,7 @@ struct Roller {
     }
 };
 
-size_t width(uint8_t command) { return command == 'S' ? 7 : command == 'X' ? 6 : command == 'E' ? 1 : 0; }
+size_t width(uint8_t command) { return command == 'S' ? 7 : command == 'X' || command == 'P' ? 6 : command == 'E' ? 1 : 0; }
 
 Refusal ask_roll(const uint8_t *roll, size_t length) {
     for (size_t at = 0;;) {
@@ -332,8 +336,8 @@ struct Reader {
     }
 
     bool vertex(uint16_t &entry) {
-        if (length - at < 2 || (sheet[at] != 'K' && sheet[at] != 'R') || sheet[at + 1] == 0) return false;
-        entry = sheet[at + 1] + (sheet[at] == 'R' ? 256 : 0);
+        if (length - at < 2 || (sheet[at] != 'K' && sheet[at] != 'R' && sheet[at] != 'N') || sheet[at + 1] == 0) return false;
+        entry = sheet[at + 1] + (sheet[at] == 'R' ? 256 : sheet[at] == 'N' ? 512 : 0);
         at += 2;
         return true;
     }
@@ -452,7 +456,10 @@ uint32_t write_sheet(uint16_t w, uint16_t h, const uint8_t *bitmap, size_t bytes
     *sheet++ = 'L', put_u16(sheet, w), put_u16(sheet, h);
     for (const Contour &contour : contours) {
         *sheet++ = 'C', *sheet++ = contour[0].vertical, put_u16(sheet, contour[0].column), put_u16(sheet, contour[0].row);
-        for (const Stick &stick : contour) *sheet++ = is_kept(table[stick.number]) ? 'K' : 'R', *sheet++ = table[stick.number] % 256;
+        for (const Stick &stick : contour) {
+            uint16_t entry = table[stick.number];
+            *sheet++ = is_removed(entry) ? 'R' : is_pinned(entry) ? 'N' : 'K', *sheet++ = entry % 256;
+        }
     }
     *sheet = 'E';
     return answer(figures, YES, needed);

@@ -1,5 +1,5 @@
-/* The exported library from C: the paper's single sample, from the bitmap to its sheet, and the figures of refusals as the header has them.
- * Silent if all is right. */
+/* The exported library from C: the paper's single sample, from the bitmap to its sheet, the figures of refusals as the header has them, and a
+ * pinned vertex. Silent if all is right. */
 #include "../../include/puzhenim.h"
 #include <stdio.h>
 #include <string.h>
@@ -19,6 +19,7 @@ int main(void) {
     const uint8_t bitmap[3] = {0, 2, 0}, spare[3] = {0, 10, 0};
     const uint8_t expected[20] = {0x4C, 3, 0, 3, 0, 0x43, 0, 0, 0, 1, 0, 0x4B, 255, 0x4B, 255, 0x4B, 1, 0x4B, 1, 0x45};
     const uint8_t edits[14] = {'S', 0, 0, 0, 1, 0, 128, 'X', 0, 0, 0, 1, 0, 'E'};
+    const uint8_t pins[14] = {'P', 0, 0, 0, 1, 0, 'S', 0, 0, 0, 1, 0, 0, 'E'};
     uint16_t table[12] = {7}, read[12] = {9};
     uint8_t sheet[21], items[8];
     double points[8];
@@ -40,6 +41,13 @@ int main(void) {
     good &= expect(pz_trace(3, 3, spare, sizeof spare, TABLE, FIGURES) == 3 && ARE(1, 0, 0, 0), "spare bits");
     good &= expect(pz_roll(LAYER, TABLE, edits, sizeof edits, 255, FIGURES) == 11 && ARE(7, 1, 0, 0), "an edit after one that is done");
     good &= expect(table[2] == 128 && table[7] == 255, "the table after it");
+    good &= expect(pz_roll(LAYER, TABLE, pins, sizeof pins, 255, FIGURES) == 16 && ARE(6, 1, 0, 0), "a slide after a pin");
+    good &= expect(table[2] == 640 && table[7] == 255, "the pin");
+    good &= expect(pz_smooth(LAYER, TABLE, 100, FIGURES) == 0 && ARE(0, 1, 0, 1) && table[2] == 640, "smooth beside a pin");
+    good &= expect(pz_simplify(LAYER, TABLE, 255, FIGURES) == 0 && ARE(0, 0, 6, 0) && table[2] == 640, "simplify beside a pin");
+    good &= expect(pz_write_sheet(LAYER, TABLE, sheet, 20, FIGURES) == 0 && sheet[11] == 'N' && sheet[12] == 128, "the pin in the sheet");
+    good &= expect(pz_read_sheet(LAYER, read, 12, sheet, 20, FIGURES) == 0 && memcmp(read, table, sizeof table) == 0, "the pin read");
+    good &= expect(pz_trace(LAYER, TABLE, FIGURES) == 0 && table[2] == 128, "no pin after a trace");
     good &= expect(pz_counts(LAYER, NULL, 0, FIGURES) == 5 && ARE(0, 0, 0, 0), "no table");
     good &= expect(pz_roll(LAYER, TABLE, NULL, 0, 0, FIGURES) == 8 && ARE(0, 0, 0, 0), "no roll");
     good &= expect(pz_plan(LAYER, TABLE, items, 8, NULL, 0, FIGURES) == 14 && ARE(0, 0, 0, 0), "no room for points");

@@ -113,17 +113,18 @@ static void fill_bitmap(void) {
             if (is_inside(c, r)) bitmap[r * (SIDE / 8) + c / 8] |= 1 << c % 8;
 }
 
-/* Fills the roll with a slide of each kept vertex to an offset, or to where it is if that is 0, and answers how many. */
-static size_t fill_roll(uint8_t offset) {
-    size_t n = 0;
+/* Fills the roll with a command for each vertex that is kept and not pinned, and answers how many: S, a slide to an offset, or to where it is
+ * if that is 0; or P. */
+static size_t fill_roll(uint8_t letter, uint8_t offset) {
+    size_t n = 0, width = letter == 'S' ? 7 : 6;
     for (size_t e = 0; e < EDGES; e++) {
         size_t kind = e >= HORIZONTAL, across = SIDE - 1 + kind, k = e - kind * HORIZONTAL, c = k % across, r = k / across;
         if (table[e] == 0 || table[e] > 255) continue;
-        const uint8_t slide[7] = {'S', kind, c % 256, c / 256, r % 256, r / 256, offset ? offset : table[e]};
-        memcpy(roll + 7 * n++, slide, 7);
+        const uint8_t command[7] = {letter, kind, c % 256, c / 256, r % 256, r / 256, offset ? offset : table[e]};
+        memcpy(roll + width * n++, command, width);
     }
-    roll[7 * n] = 'E';
-    roll_len = 7 * n + 1;
+    roll[width * n] = 'E';
+    roll_len = width * n + 1;
     return n;
 }
 
@@ -155,7 +156,7 @@ static void all_calls(const char *name, uint64_t contours) {
     make(&TRACE), answered(&TRACE, 0, 0, 0);
     expect(entries(128, 128) == sticks && entries(0, 0) == EDGES - sticks, "pz_trace", "another table");
     /* Between two kept vertices there is no stick to cross. */
-    fill_roll(100);
+    fill_roll('S', 100);
     make(&ROLL), answered(&ROLL, sticks, 0, 0);
     expect(entries(100, 100) == sticks, "pz_roll", "another table");
     memcpy(before, table, sizeof table);
@@ -168,9 +169,14 @@ static void all_calls(const char *name, uint64_t contours) {
     expect(2 * contours <= figures[2] && figures[2] <= 2 * (sticks - contours), "pz_simplify", "runs tried");
     /* A vertex slid to where it is redraws the edges that are held, and no slide is longer than 255. */
     memcpy(before, table, sizeof table);
-    uint64_t kept = fill_roll(0);
+    uint64_t kept = fill_roll('S', 0);
     make(&ROLL), answered(&ROLL, kept, 0, 0);
     expect(!memcmp(before, table, sizeof table), "pz_roll", "another table");
+    /* Pinned vertices are kept ones: sheet and list are as long as without pins. */
+    fill_roll('P', 0);
+    make(&ROLL), answered(&ROLL, kept, 0, 0);
+    expect(entries(513, 767) == kept && entries(1, 255) == 0, "pz_roll", "not every kept vertex is pinned");
+    memcpy(before, table, sizeof table);
     sheet_len = 6 + 6 * contours + 2 * sticks;
     make(&WRITE), answered(&WRITE, sheet_len, 0, 0);
     memset(table, 7, sizeof table);

@@ -82,6 +82,16 @@ pub fn crosses_once(layer: &Layer, a: Point, b: Point, stick: usize) -> bool {
     }
 }
 
+/// The high byte of an entry is 0 for a kept vertex, 1 for a removed one, and 2 for one
+/// that is kept and pinned.
+fn kept(entry: u16) -> bool {
+    entry & 255 != 0 && [0, 2].contains(&(entry >> 8))
+}
+
+fn pinned(entry: u16) -> bool {
+    entry >> 8 == 2
+}
+
 /// Where the vertex of a stick lies: at its offset, in 1/256 of the way from one
 /// sample to the other.
 pub fn vertex(layer: &Layer, table: &[u16], stick: usize) -> Point {
@@ -102,17 +112,17 @@ pub struct Stroke {
 /// The drawn edges of a contour: twice around it, vertex by vertex, from the
 /// first kept one until that one comes again.
 pub fn strokes(contour: &[usize], table: &[u16]) -> Vec<Stroke> {
-    let kept = |stick: usize| table[stick] < 256;
+    let is_kept = |stick: usize| kept(table[stick]);
     let twice = contour.iter().chain(contour).copied();
     let mut strokes = Vec::new();
     let mut open: Option<Stroke> = None;
-    for stick in twice.skip_while(|&stick| !kept(stick)) {
+    for stick in twice.skip_while(|&stick| !is_kept(stick)) {
         match open.as_mut() {
-            Some(stroke) if !kept(stick) => stroke.between.push(stick),
+            Some(stroke) if !is_kept(stick) => stroke.between.push(stick),
             Some(stroke) => stroke.to = stick,
             None => (),
         }
-        if kept(stick) {
+        if is_kept(stick) {
             let next = Stroke {
                 from: stick,
                 to: stick,
@@ -141,10 +151,7 @@ fn ends(layer: &Layer, table: &[u16], stroke: &Stroke) -> [Point; 2] {
 /// drawn edge crosses every removed stick between its ends."
 pub fn contour_is_held(layer: &Layer, contour: &[usize], table: &[u16]) -> bool {
     let drawn = strokes(contour, table);
-    let kept = contour
-        .iter()
-        .filter(|&&stick| (1..256).contains(&table[stick]))
-        .count();
+    let kept = contour.iter().filter(|&&stick| kept(table[stick])).count();
     kept >= 3
         && drawn.iter().all(|edge| {
             let [a, b] = ends(layer, table, edge);
@@ -188,7 +195,8 @@ pub fn edit_tolerance(
     })
 }
 
-/// Does the run pass under T? Then its inner vertices are removed.
+/// Does the run pass under T? It does not with a pinned vertex among the inner ones,
+/// which are removed if it does.
 fn remove_if_passing(
     layer: &Layer,
     contour: &[usize],
@@ -203,8 +211,9 @@ fn remove_if_passing(
         to: at(end),
         between: (start + 1..end).map(at).collect(),
     };
+    let has_pin = run.between.iter().any(|&stick| pinned(table[stick]));
     match least_tolerance(layer, table, &run) {
-        Some(least) if least <= t as i128 => {
+        Some(least) if least <= t as i128 && !has_pin => {
             for stick in run.between {
                 table[stick] += 256;
             }
@@ -225,6 +234,40 @@ pub fn simplify(
     by_loop(contour.len(), order, |run| {
         remove_if_passing(layer, contour, table, t, run)
     })
+}
+
+/// The offset of the vertex on a stick after it is drawn towards the segment from a to b,
+/// which meets the stick at v / d: the whole number nearest to old + 2/5 of (v / d - old),
+/// and of two that are equally near the one nearer to 128.
+fn drawn_towards(layer: &Layer, a: Point, b: Point, stick: usize, old: i128) -> i128 {
+    let [c, end] = samples(layer, stick);
+    let p = common(a, b, c, end)[0];
+    let (v, d) = (p.x - c.x * p.d + p.y - c.y * p.d, p.d);
+    // 5 d times that number, to be compared with 5 d k.
+    let fifths = 3 * d * old + 2 * v;
+    let nearest = (0..=256).min_by_key(|&k| ((5 * d * k - fifths).abs(), (k - 128i128).abs()));
+    nearest.expect("there are whole numbers")
+}
+
+/// A pass of Smooth along a contour whose vertices all stand in a table of plain offsets:
+/// those on some sticks are passed over. The sum of the changes.
+pub fn pass(
+    layer: &Layer,
+    contour: &[usize],
+    offsets: &mut [u16],
+    passed_over: impl Fn(usize) -> bool,
+) -> u64 {
+    let n = contour.len();
+    let mut total = 0;
+    for i in (0..n).filter(|&i| !passed_over(contour[i])) {
+        let a = vertex(layer, offsets, contour[(i + n - 1) % n]);
+        let b = vertex(layer, offsets, contour[(i + 1) % n]);
+        let offset = &mut offsets[contour[i]];
+        let new = drawn_towards(layer, a, b, contour[i], *offset as i128) as u16;
+        total += new.abs_diff(*offset) as u64;
+        *offset = new;
+    }
+    total
 }
 
 /// Contours pass between two adjacent samples once where they differ and never

@@ -3,12 +3,12 @@
 // generator.
 
 use crate::contour::contours;
-use crate::hold::{contour_is_held, is_kept};
+use crate::hold::{contour_is_held, is_free, is_kept, offset, removed, State};
 use crate::layer::{ask_1_to_4, row_bytes, Layer};
 use crate::machine::Machine;
 use crate::picture;
 use crate::prng::Rng;
-use crate::roll::roll;
+use crate::roll::{roll, Action};
 use crate::script::{Command, END};
 use crate::sheet::write_sheet;
 use crate::trace::counts;
@@ -87,10 +87,10 @@ impl Builder {
             .collect()
     }
 
-    /// Gives some of the kept vertices a random offset.
+    /// Gives some of the free vertices a random offset.
     pub fn jitter(&mut self, sixteenths: usize) {
         for stick in self.sticks() {
-            if is_kept(self.machine.table[stick]) && self.rng.chance(sixteenths, 16) {
+            if is_free(self.machine.table[stick]) && self.rng.chance(sixteenths, 16) {
                 let value = match self.rng.below(4) {
                     0 => self.rng.pick(&[1, 2, 127, 129, 254, 255]),
                     _ => self.rng.between(1, 255) as u16,
@@ -100,8 +100,18 @@ impl Builder {
         }
     }
 
-    /// Tries to remove so many random vertices, each only if its contour is still
-    /// held after that.
+    /// Pins so many of sixteen kept vertices.
+    pub fn pin(&mut self, sixteenths: usize) {
+        for stick in self.sticks() {
+            let entry = self.machine.table[stick];
+            if is_kept(entry) && self.rng.chance(sixteenths, 16) {
+                self.poke(stick, State::Pinned.at(offset(entry)));
+            }
+        }
+    }
+
+    /// Tries to remove so many random vertices, each only if it is free and its contour
+    /// is still held after that.
     pub fn thin(&mut self, times: usize) {
         let layer = self.current();
         let contours = contours(&layer);
@@ -112,8 +122,8 @@ impl Builder {
             let contour = &contours[self.rng.below(contours.len())];
             let stick = contour[self.rng.below(contour.len())];
             let mut table = self.machine.table.clone();
-            if is_kept(table[stick]) {
-                table[stick] += 256;
+            if is_free(table[stick]) {
+                table[stick] = removed(table[stick]);
                 if contour_is_held(&layer, contour, &table) {
                     self.poke(stick, table[stick]);
                 }
@@ -121,19 +131,20 @@ impl Builder {
         }
     }
 
-    /// Removes up to so many vertices of each contour, the first ones of its walk, as
-    /// far as it is still held after that.
+    /// Removes up to so many free vertices of each contour, the first ones of its walk,
+    /// as far as it is still held after that.
     pub fn remove_firsts(&mut self, most: usize) {
         let layer = self.current();
         let mut table = self.machine.table.clone();
         for contour in contours(&layer) {
             for &stick in &contour[..self.rng.between(1, most)] {
-                if !is_kept(table[stick]) {
+                let before = table[stick];
+                if !is_free(before) {
                     continue;
                 }
-                table[stick] += 256;
+                table[stick] = removed(before);
                 if !contour_is_held(&layer, &contour, &table) {
-                    table[stick] -= 256;
+                    table[stick] = before;
                     break;
                 }
                 self.poke(stick, table[stick]);
@@ -151,10 +162,10 @@ impl Builder {
         sheet
     }
 
-    /// The bytes of an edit of a stick: a slide to the offset, or a removal.
-    pub fn edit(&self, stick: usize, offset: Option<u8>) -> Vec<u8> {
+    /// The bytes of an edit of a stick.
+    pub fn edit(&self, stick: usize, action: Action) -> Vec<u8> {
         let edge = self.current().edge(stick);
-        edit_bytes(edge.kind, edge.c as u16, edge.r as u16, offset)
+        edit_bytes(edge.kind, edge.c as u16, edge.r as u16, action)
     }
 
     /// What a roll of this edit alone gets on this table, 0 if it is done.
@@ -197,9 +208,14 @@ impl Builder {
     }
 }
 
-/// "S and a stick and an offset byte", or "X and a stick".
-pub fn edit_bytes(kind: u8, c: u16, r: u16, offset: Option<u8>) -> Vec<u8> {
-    let mut bytes = vec![if offset.is_some() { 0x53 } else { 0x58 }, kind];
+/// "S and a stick and an offset byte", "X and a stick" or "P and a stick".
+pub fn edit_bytes(kind: u8, c: u16, r: u16, action: Action) -> Vec<u8> {
+    let (letter, offset) = match action {
+        Action::Slide(offset) => (0x53, Some(offset)),
+        Action::Remove => (0x58, None),
+        Action::Pin => (0x50, None),
+    };
+    let mut bytes = vec![letter, kind];
     bytes.extend(c.to_le_bytes());
     bytes.extend(r.to_le_bytes());
     bytes.extend(offset);

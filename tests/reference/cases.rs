@@ -6,6 +6,7 @@ use crate::depth::depths;
 use crate::layer::Layer;
 use crate::machine::{Answer, Machine};
 use crate::picture::{frames, lattice, shown};
+use crate::pins_cases;
 use crate::places;
 use crate::planner::planner;
 use crate::program::program;
@@ -332,7 +333,7 @@ fn order() -> Vec<Check> {
     ]
 }
 
-/// What is wrong with these cases, or with those of the questions' places.
+/// What is wrong with these cases, those of the questions' places, or those of Note 5.
 pub fn wrong() -> Vec<String> {
     let groups = vec![
         single_sample(),
@@ -346,6 +347,7 @@ pub fn wrong() -> Vec<String> {
         list(),
         order(),
         places::checks(),
+        pins_cases::checks(),
     ];
     let checks = groups.iter().flatten();
     checks

@@ -5,24 +5,64 @@ use crate::chord::{crosses, vertex, Point};
 use crate::contour::{contours, Contour};
 use crate::layer::{ask_1_to_5, refuse, Layer, Refusal};
 
-/// "1 to 255 for a kept vertex at that offset."
+/// What an entry says of the vertex on a stick. A free vertex and a pinned one are kept.
+#[derive(Clone, Copy, PartialEq, Eq, Debug)]
+pub enum State {
+    Free,
+    Removed,
+    Pinned,
+}
+
+impl State {
+    /// Question 6: "1 to 255 or 257 to 511", and Note 5: "Question 6 admits 513 to 767
+    /// too." Nothing if no vertex has this entry.
+    pub fn of(entry: u16) -> Option<State> {
+        match entry {
+            1..=255 => Some(State::Free),
+            257..=511 => Some(State::Removed),
+            513..=767 => Some(State::Pinned),
+            _ => None,
+        }
+    }
+
+    /// "1 to 255 for a kept vertex at that offset, 256 plus the offset for a removed
+    /// vertex with the offset it last had", and Note 5: "A table entry of 512 plus offset
+    /// is a kept and pinned vertex."
+    pub fn at(self, offset: u8) -> u16 {
+        let above = match self {
+            State::Free => 0,
+            State::Removed => 256,
+            State::Pinned => 512,
+        };
+        above + offset as u16
+    }
+}
+
+pub fn is_free(entry: u16) -> bool {
+    State::of(entry) == Some(State::Free)
+}
+
+pub fn is_pinned(entry: u16) -> bool {
+    State::of(entry) == Some(State::Pinned)
+}
+
 pub fn is_kept(entry: u16) -> bool {
-    (1..=255).contains(&entry)
+    is_free(entry) || is_pinned(entry)
 }
 
-/// "256 plus the offset for a removed vertex with the offset it last had."
 pub fn is_removed(entry: u16) -> bool {
-    (257..=511).contains(&entry)
+    State::of(entry) == Some(State::Removed)
 }
 
-/// The offset of a kept or a removed vertex.
+/// The offset of a vertex, whatever its state.
 pub fn offset(entry: u16) -> u8 {
-    let offset = if is_removed(entry) {
-        entry - 256
-    } else {
-        entry
-    };
-    offset as u8
+    (entry % 256) as u8
+}
+
+/// What becomes of the entry of a vertex that is removed, which only a free one is.
+pub fn removed(entry: u16) -> u16 {
+    assert!(is_free(entry), "a vertex with entry {} is removed", entry);
+    State::Removed.at(offset(entry))
 }
 
 /// The point of the vertex on this stick, as its entry gives it.
@@ -75,11 +115,11 @@ pub fn contour_is_held(layer: &Layer, contour: &[usize], table: &[u16]) -> bool 
 }
 
 /// Question 6: "Is each entry 0 off sticks, and 1 to 255 or 257 to 511 on them?
-/// (lowest entry)"
+/// (lowest entry)", or 513 to 767.
 fn ask_entries(layer: &Layer, table: &[u16]) -> Result<(), Refusal> {
     for (number, &entry) in table.iter().enumerate() {
         let good = match layer.is_stick(number) {
-            true => is_kept(entry) || is_removed(entry),
+            true => State::of(entry).is_some(),
             false => entry == 0,
         };
         if !good {

@@ -200,7 +200,7 @@ impl Machine {
     }
 
     /// The line of an answer: letter, number, place, figures, the table's digest.
-    fn line(&self, letter: u8, answer: &Answer) -> String {
+    pub fn line(&self, letter: u8, answer: &Answer) -> String {
         let mut words = vec![(letter as char).to_string()];
         words.push(answer.number.to_string());
         words.push(answer.place.to_string());

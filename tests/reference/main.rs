@@ -16,6 +16,9 @@ mod machine;
 mod order;
 mod pending;
 mod picture;
+mod pins;
+mod pins_cases;
+mod pins_vectors;
 mod places;
 mod planner;
 mod prng;
@@ -27,6 +30,7 @@ mod sets;
 mod sets_bitmap;
 mod sets_lists;
 mod sets_pending;
+mod sets_pins;
 mod sets_settling;
 mod sets_table;
 mod sets_text;
@@ -47,7 +51,7 @@ const USAGE: &str = "usage: reference make NAME.. | random NAME SEED | answer | 
   make    writes the script of the sets NAME.., one after the other
   random  writes the same set made from another seed
   answer  reads a script and writes the answers to its calls
-  faithful  runs the lists of calls of a script; silent if every table after an accepted opening is faithful
+  faithful  runs the lists of calls of a script; silent if every table after an accepted opening is faithful and pins stay
   halves  writes what the program of this name has to write
   show    reads a script and prints it for a person
   test    checks the reference itself; silent if all is right";
@@ -86,17 +90,20 @@ fn run(words: &[&str]) -> Result<Vec<u8>, Failure> {
     }
 }
 
-/// Nothing if the layer is faithful after each call that follows an accepted Trace or sheet reading.
+/// Nothing if the layer is faithful after each call that follows an accepted Trace or sheet reading,
+/// and each of these calls that is not one itself leaves the pinned entries as they are.
 fn faithful(commands: &[Command]) -> Result<Vec<u8>, Failure> {
     let mut machine = machine::Machine::default();
     let mut opened = false;
     for (i, command) in commands.iter().enumerate() {
         let opens = matches!(command, Command::Trace | Command::ReadSheet { .. });
+        let before = machine.table.clone();
         opened = match machine.run(command) {
             Some(answer) => opened || (opens && answer.number == 0),
             None => false,
         };
-        if opened && !test::stays_faithful(&machine) {
+        let stays = opens || pins::stay(&before, &machine.table);
+        if opened && !(stays && test::stays_faithful(&machine)) {
             return Err(Failure::Message(format!(
                 "not faithful after command {}",
                 i

@@ -241,9 +241,9 @@ impl Done {
     }
 }
 
-/// Random layers, as traced, slid and smoothed, under several tolerances. As traced and
-/// under T 0 the bound is reached on each outline: it bends at its second vertex, so that
-/// no run from its first one on passes but a single edge.
+/// Random layers, as traced, slid, pinned and smoothed, under several tolerances. As traced,
+/// pinned or not, and under T 0 the bound is reached on each outline: it bends at its second
+/// vertex, so that no run from its first one on passes but a single edge.
 fn random_layers(wrong: &mut Vec<String>, seed: u64) {
     let mut b = Builder::new(seed);
     let (mut reached, mut others) = (0, 0);
@@ -252,6 +252,8 @@ fn random_layers(wrong: &mut Vec<String>, seed: u64) {
         b.traced(&layer);
         let sixteenths = b.rng.pick(&[0, 0, 1, 4, 16]);
         b.jitter(sixteenths);
+        let pinned = b.rng.pick(&[0, 0, 1, 4]);
+        b.pin(pinned);
         let limit = b.rng.pick(&[0, 0, 0, 1, 20]);
         b.add(Command::Smooth { limit });
         let t = b.rng.pick(&[0, 0, 1, 12, 64, 85, 86, 128, 255]);

@@ -2,6 +2,7 @@
 // bitmap and a table's length, 6 of its entries, 7 and 15 of its vertices.
 
 use crate::builder::{exact_length, Builder};
+use crate::hold::{offset, State};
 use crate::layer::{row_bytes, Layer};
 use crate::picture;
 use crate::script::Command;
@@ -222,7 +223,8 @@ pub fn some_noes(b: &mut Builder, call: Call) {
 }
 
 /// Question 6: entries that no stick may have, and entries off sticks that are
-/// not 0; one or several, and with removed vertices that break 7 or 15.
+/// not 0; one or several, and with removed vertices that break 7 or 15. Among them
+/// are 513 and 640, which a pinned vertex has.
 pub fn entries(b: &mut Builder, call: Call, times: usize) {
     for _ in 0..times {
         let layer = b.some_layer(12);
@@ -250,7 +252,7 @@ pub fn remove_at_random(b: &mut Builder, sixteenths: usize) {
     for stick in b.sticks() {
         if b.rng.chance(sixteenths, 16) {
             let entry = b.machine.table[stick];
-            b.poke(stick, entry % 256 + 256);
+            b.poke(stick, State::Removed.at(offset(entry)));
         }
     }
 }

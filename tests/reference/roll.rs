@@ -1,16 +1,17 @@
-// Roll: an edit roll of slides and removals. The whole roll is looked at first
-// (question 8), then each edit is put to the questions 9 to 13.
+// Roll: an edit roll of slides, removals and pins. The whole roll is looked at first
+// (question 8), then each edit is put to the questions 9 to 13 and 16.
 
 use crate::chord::{crosses, slides_at_most, vertex, Point};
 use crate::contour::Contour;
-use crate::hold::{ask_1_to_7, is_kept, offset, vertex_of};
+use crate::hold::{ask_1_to_7, is_kept, is_pinned, offset, removed, vertex_of, State};
 use crate::layer::{refuse, Edge, Layer, Refusal};
 
 /// What an edit does to the stick it names.
-#[derive(Clone, Copy)]
+#[derive(Clone, Copy, PartialEq, Eq)]
 pub enum Action {
     Slide(u8),
     Remove,
+    Pin,
 }
 
 /// One edit: its byte offset in the roll, the stick it names and what to do.
@@ -33,34 +34,26 @@ fn named_stick(bytes: &[u8]) -> Edge {
 /// Question 8: "Is the roll ... well formed to its last byte? (start of the first
 /// command that is wrong, cut short, missing or extra)". "S (hex 53) and a stick
 /// and an offset byte slides; X (hex 58) and a stick removes; E (hex 45) ends
-/// the roll."
+/// the roll." Note 5: "A roll gains P (hex 50) and a stick, which pins a kept vertex".
 pub fn edits(roll: &[u8]) -> Result<Vec<Edit>, Refusal> {
     let mut edits = Vec::new();
     let mut place = 0;
     loop {
         let rest = &roll[place..];
-        match rest.first() {
-            Some(0x53) if rest.len() >= 7 => {
-                let action = Action::Slide(rest[6]);
-                edits.push(Edit {
-                    place,
-                    stick: named_stick(&rest[1..6]),
-                    action,
-                });
-                place += 7;
-            }
-            Some(0x58) if rest.len() >= 6 => {
-                edits.push(Edit {
-                    place,
-                    stick: named_stick(&rest[1..6]),
-                    action: Action::Remove,
-                });
-                place += 6;
-            }
+        let (action, length) = match rest.first() {
+            Some(0x53) if rest.len() >= 7 => (Action::Slide(rest[6]), 7),
+            Some(0x58) if rest.len() >= 6 => (Action::Remove, 6),
+            Some(0x50) if rest.len() >= 6 => (Action::Pin, 6),
             Some(0x45) if rest.len() == 1 => return Ok(edits),
             Some(0x45) => return refuse(8, place + 1),
             _ => return refuse(8, place),
-        }
+        };
+        edits.push(Edit {
+            place,
+            stick: named_stick(&rest[1..6]),
+            action,
+        });
+        place += length;
     }
 }
 
@@ -88,7 +81,7 @@ fn to_next_kept(contour: &[usize], table: &[u16], i: usize, forward: bool) -> (V
 }
 
 /// "Removal joins the two kept neighbours. A slide redraws the two edges at that
-/// vertex."
+/// vertex." A pin redraws none.
 fn redrawn(
     layer: &Layer,
     contour: &[usize],
@@ -125,6 +118,7 @@ fn redrawn(
                 between: before,
             }]
         }
+        Action::Pin => Vec::new(),
     }
 }
 
@@ -149,8 +143,10 @@ fn all_within(layer: &Layer, table: &[u16], redrawn: &[Redrawn], t: u8) -> bool 
     })
 }
 
-/// Questions 9 to 13 put to one edit, and the entry that it writes: "An accepted
-/// edit writes the named stick's entry and no other."
+/// Questions 9 to 13 and 16 put to one edit, and the entry that it writes: "An accepted
+/// edit writes the named stick's entry and no other." Note 5: "Refused: 16, a slide or
+/// removal of a pinned vertex, after question 9 and before 10". "A pin on an already
+/// pinned vertex is done and alters nothing"; after 9 no question stops a pin.
 fn edit(
     layer: &Layer,
     contours: &[Contour],
@@ -161,10 +157,13 @@ fn edit(
     if !layer.has_edge(edit.stick) || !is_kept(table[layer.number(edit.stick)]) {
         return refuse(9, edit.place);
     }
+    let stick = layer.number(edit.stick);
+    if is_pinned(table[stick]) && edit.action != Action::Pin {
+        return refuse(16, edit.place);
+    }
     if let Action::Slide(0) = edit.action {
         return refuse(10, edit.place);
     }
-    let stick = layer.number(edit.stick);
     let contour = contours.iter().find(|contour| contour.contains(&stick));
     let contour = contour.expect("each stick is on a contour");
     let i = contour
@@ -182,11 +181,12 @@ fn edit(
         .iter()
         .filter(|&&stick| is_kept(table[stick]))
         .count();
-    match edit.action {
+    table[stick] = match edit.action {
         Action::Remove if kept - 1 < 3 => return refuse(13, edit.place),
-        Action::Remove => table[stick] += 256,
-        Action::Slide(new) => table[stick] = new as u16,
-    }
+        Action::Remove => removed(table[stick]),
+        Action::Slide(new) => State::Free.at(new),
+        Action::Pin => State::Pinned.at(offset(table[stick])),
+    };
     Ok(())
 }
 
@@ -197,7 +197,7 @@ pub struct Rolled {
     pub done: u64,
 }
 
-/// Roll. Questions 1 to 8, then 9 to 13 for each command; "the whole roll passes
+/// Roll. Questions 1 to 8, then 9 to 13 and 16 for each command; "the whole roll passes
 /// 8 before an edit is made."
 pub fn roll(w: u16, h: u16, bitmap: &[u8], table: &mut [u16], t: u8, roll: &[u8]) -> Rolled {
     let asked = ask_1_to_7(w, h, bitmap, table);

@@ -4,6 +4,7 @@
 use crate::builder::Builder;
 use crate::sets_bitmap;
 use crate::sets_lists;
+use crate::sets_pins;
 use crate::sets_table;
 use crate::sets_text;
 
@@ -13,7 +14,7 @@ pub struct Set {
     fill: fn(&mut Builder),
 }
 
-pub const SETS: [Set; 12] = [
+pub const SETS: [Set; 13] = [
     Set {
         name: "trace",
         seed: 101,
@@ -58,6 +59,11 @@ pub const SETS: [Set; 12] = [
         name: "planner",
         seed: 108,
         fill: sets_text::planner,
+    },
+    Set {
+        name: "pins",
+        seed: 113,
+        fill: sets_pins::pins,
     },
     Set {
         name: "lists",

@@ -4,22 +4,27 @@
 use crate::builder::Builder;
 use crate::layer::Layer;
 use crate::picture;
+use crate::roll::Action;
 use crate::script::Command;
-use crate::sets_table::random_roll;
+use crate::sets_pins::{edit_or_pin, turn_pins};
+use crate::sets_table::{random_edit, random_roll, AnyEdit};
 use crate::sets_text::damage;
 
 const TOLERANCES: [u8; 5] = [0, 12, 64, 128, 255];
 
-/// The sheet of the layer as it is, damaged now and then.
+/// The sheet of the layer as it is, with other pins or damaged now and then.
 fn read_back(b: &mut Builder) {
     let mut bytes = b.sheet();
+    if b.rng.chance(1, 2) {
+        turn_pins(b, &mut bytes);
+    }
     if b.rng.chance(1, 2) {
         damage(b, &mut bytes);
     }
     b.add(Command::ReadSheet { bytes });
 }
 
-fn any_call(b: &mut Builder) {
+fn any_call(b: &mut Builder, any: AnyEdit) {
     let t = b.rng.pick(&TOLERANCES);
     match b.rng.below(8) {
         0 => {
@@ -35,7 +40,7 @@ fn any_call(b: &mut Builder) {
         }
         _ => {
             let tries = b.rng.between(1, 12);
-            let bytes = random_roll(b, t, tries);
+            let bytes = random_roll(b, t, tries, any);
             b.add(Command::Roll { t, bytes });
         }
     }
@@ -55,8 +60,11 @@ pub fn lists(b: &mut Builder) {
     for _ in 0..40 {
         let layer = b.some_layer(12);
         open(b, &layer);
+        let any: AnyEdit = b
+            .rng
+            .pick(&[random_edit as AnyEdit, edit_or_pin, edit_or_pin]);
         for _ in 0..b.rng.below(14) {
-            any_call(b);
+            any_call(b, any);
         }
     }
 }
@@ -108,9 +116,11 @@ fn deepest(b: &mut Builder) {
 fn any_edit(b: &mut Builder) {
     let sticks = b.sticks();
     let stick = b.rng.pick(&sticks);
-    let slide = b.rng.chance(1, 2);
-    let offset = b.rng.between(1, 255) as u8;
-    let mut bytes = b.edit(stick, if slide { Some(offset) } else { None });
+    let slide = Action::Slide(b.rng.between(1, 255) as u8);
+    let action = b
+        .rng
+        .pick(&[slide, slide, Action::Remove, Action::Remove, Action::Pin]);
+    let mut bytes = b.edit(stick, action);
     bytes.push(0x45);
     let t = b.rng.pick(&TOLERANCES);
     b.add(Command::Roll { t, bytes });

@@ -52,7 +52,7 @@ fn single_by_passes() -> Vec<Vec<u16>> {
 }
 
 /// A block of so many columns and rows of samples, from column 1 and this row on.
-fn set_block(layer: &mut Layer, row: usize, columns: usize, rows: usize) {
+pub fn set_block(layer: &mut Layer, row: usize, columns: usize, rows: usize) {
     for r in row..row + rows {
         for c in 1..=columns {
             layer.set(c, r, true);

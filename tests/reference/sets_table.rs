@@ -3,10 +3,11 @@
 
 use crate::builder::{edit_bytes, Builder};
 use crate::contour::contours;
-use crate::hold::{is_kept, is_removed};
+use crate::hold::{is_kept, is_removed, offset};
 use crate::layer::Layer;
 use crate::picture;
 use crate::refusals::{ask_1_to_7, not_held, plain, remove_at_random, some_removed, Call};
+use crate::roll::Action;
 use crate::script::Command;
 use crate::sets_pending::pending;
 use crate::sets_settling::settling;
@@ -216,7 +217,7 @@ pub fn simplify(b: &mut Builder) {
 /// Rolls that are not well formed, after some edits that would be done.
 fn ill_formed_rolls(b: &mut Builder) {
     b.traced(&bar());
-    let (slide, removal) = (b.edit(14, Some(140)), b.edit(14, None));
+    let (slide, removal) = (b.edit(14, Action::Slide(140)), b.edit(14, Action::Remove));
     let (slide, removal, end): (&[u8], &[u8], &[u8]) = (&slide, &removal, &[0x45]);
     let mut rolls = vec![Vec::new(), slide.to_vec(), [slide, removal].concat()];
     for cut in 1..7 {
@@ -266,15 +267,15 @@ const NO_KEPT_VERTEX: [(u8, u16, u16); 16] = [
 /// Question 9, with slides to 0 too: 9 comes before 10.
 fn unknown_sticks(b: &mut Builder) {
     b.traced(&bar());
-    let (removal, done) = (b.edit(14, None), b.edit(4, Some(100)));
+    let (removal, done) = (b.edit(14, Action::Remove), b.edit(4, Action::Slide(100)));
     let end = vec![0x45];
     let bytes = [removal, end.clone()].concat();
     b.add(Command::Roll { t: 255, bytes });
     for (kind, c, r) in NO_KEPT_VERTEX {
-        for offset in [None, Some(128), Some(0)] {
+        for action in [Action::Remove, Action::Slide(128), Action::Slide(0)] {
             let times = b.rng.below(3);
             let before = done.repeat(times);
-            let wrong = edit_bytes(kind, c, r, offset);
+            let wrong = edit_bytes(kind, c, r, action);
             let bytes = [before, wrong, done.clone(), end.clone()].concat();
             b.add(Command::Roll { t: 255, bytes });
         }
@@ -286,7 +287,10 @@ fn slides_to_zero(b: &mut Builder) {
     b.traced(&bar());
     for stick in b.sticks() {
         let times = b.rng.below(3);
-        let (done, zero) = (b.edit(stick, Some(77)), b.edit(stick, Some(0)));
+        let (done, zero) = (
+            b.edit(stick, Action::Slide(77)),
+            b.edit(stick, Action::Slide(0)),
+        );
         let bytes = [done.repeat(times), zero, done, vec![0x45]].concat();
         b.add(Command::Roll { t: 255, bytes });
     }
@@ -299,7 +303,12 @@ fn far_sticks(b: &mut Builder) {
         let sticks = b.sticks();
         for i in 0..4 {
             let stick = sticks[sticks.len() - 1 - 30 * i];
-            let bytes = [b.edit(stick, Some(90)), b.edit(stick, None), vec![0x45]].concat();
+            let bytes = [
+                b.edit(stick, Action::Slide(90)),
+                b.edit(stick, Action::Remove),
+                vec![0x45],
+            ]
+            .concat();
             b.add(Command::Roll { t: 38, bytes });
         }
     }
@@ -309,7 +318,7 @@ fn far_sticks(b: &mut Builder) {
 fn roll_cases(b: &mut Builder) {
     for offset in [0, 1, 128, 254, 255] {
         b.traced(&single());
-        let slide = b.edit(2, Some(offset));
+        let slide = b.edit(2, Action::Slide(offset));
         b.add(Command::Roll {
             t: 0,
             bytes: [&slide[..], &slide, &[0x45]].concat(),
@@ -317,14 +326,14 @@ fn roll_cases(b: &mut Builder) {
     }
     for t in TOLERANCES {
         slid_bar(b);
-        let removal = b.edit(14, None);
+        let removal = b.edit(14, Action::Remove);
         b.add(Command::Roll {
             t,
             bytes: [&removal[..], &[0x45]].concat(),
         });
         for stick in [2, 7, 3, 10] {
             b.traced(&single());
-            let removal = b.edit(stick, None);
+            let removal = b.edit(stick, Action::Remove);
             b.add(Command::Roll {
                 t,
                 bytes: [&removal[..], &[0x45]].concat(),
@@ -333,8 +342,11 @@ fn roll_cases(b: &mut Builder) {
     }
 }
 
+/// Makes an edit for a table.
+pub type AnyEdit = fn(&mut Builder, &[u16]) -> Vec<u8>;
+
 /// A random edit: mostly of a kept vertex, a slide near or far, or a removal.
-fn random_edit(b: &mut Builder, table: &[u16]) -> Vec<u8> {
+pub fn random_edit(b: &mut Builder, table: &[u16]) -> Vec<u8> {
     let sticks = b.sticks();
     let kept: Vec<usize> = sticks
         .iter()
@@ -346,29 +358,29 @@ fn random_edit(b: &mut Builder, table: &[u16]) -> Vec<u8> {
         false => b.rng.pick(&kept),
     };
     if b.rng.chance(1, 2) {
-        return b.edit(stick, None);
+        return b.edit(stick, Action::Remove);
     }
-    let near = (table[stick] % 256 + 250 + b.rng.below(13) as u16) % 256;
+    let near = (offset(table[stick]) as u16 + 250 + b.rng.below(13) as u16) % 256;
     let offset = match b.rng.below(4) {
         0 => b.rng.below(256) as u8,
         _ => near as u8,
     };
-    b.edit(stick, Some(offset))
+    b.edit(stick, Action::Slide(offset))
 }
 
-/// A roll of random edits that are all done; in about half of the rolls all but
-/// the last two.
-pub fn random_roll(b: &mut Builder, t: u8, tries: usize) -> Vec<u8> {
+/// A roll of such edits that are all done; in about half of the rolls all but the last
+/// two.
+pub fn random_roll(b: &mut Builder, t: u8, tries: usize, any: AnyEdit) -> Vec<u8> {
     let mut table = b.machine.table.clone();
     let mut bytes = Vec::new();
     let may_fail = b.rng.below(2 * tries);
     for i in 0..tries {
-        let edit = random_edit(b, &table);
+        let edit = any(b, &table);
         if b.is_done(&mut table, &edit, t) {
             bytes.extend(edit);
         } else if i >= may_fail {
             bytes.extend(edit);
-            bytes.extend(random_edit(b, &table));
+            bytes.extend(any(b, &table));
             break;
         }
     }
@@ -390,7 +402,7 @@ fn slides_beside_removed(b: &mut Builder) {
         }
         let offset = b.rng.pick(&[1, 30, 100, 128, 160, 220, 255]);
         let stick = b.rng.pick(&kept);
-        let slide = b.edit(stick, Some(offset));
+        let slide = b.edit(stick, Action::Slide(offset));
         b.add(Command::Roll {
             t: TOLERANCES[i % 9],
             bytes: [slide, vec![0x45]].concat(),
@@ -411,7 +423,7 @@ fn slides_between_removed(b: &mut Builder) {
             let removed = |i: usize| is_removed(table[contour[i % n]]);
             for i in (0..n).filter(|&i| !removed(i) && removed(i + 1) && removed(i + n - 1)) {
                 for offset in [1, 255] {
-                    let bytes = [b.edit(contour[i], Some(offset)), vec![0x45]].concat();
+                    let bytes = [b.edit(contour[i], Action::Slide(offset)), vec![0x45]].concat();
                     b.add(Command::Roll { t: 0, bytes });
                 }
             }
@@ -420,7 +432,7 @@ fn slides_between_removed(b: &mut Builder) {
 }
 
 /// Discs and rings with forty sticks or more, so that vertices can be removed.
-fn round_layer(b: &mut Builder, w: usize, h: usize) -> Layer {
+pub fn round_layer(b: &mut Builder, w: usize, h: usize) -> Layer {
     loop {
         let layer = picture::discs(&mut b.rng, w, h, 6);
         let sticks = (0..layer.edge_count()).filter(|&number| layer.is_stick(number));
@@ -442,16 +454,22 @@ fn layer_in_state(b: &mut Builder, state: usize) {
         b.add(Command::Simplify { t: 40 });
     }
     if state > 2 {
-        let bytes = random_roll(b, 64, 20);
+        let bytes = random_roll(b, 64, 20, random_edit);
         b.add(Command::Roll { t: 64, bytes });
     }
 }
 
 /// An edit that gets this answer on the table (0: it is done), if one is found;
 /// a done one is made on the table.
-fn edit_that_gets(b: &mut Builder, table: &mut [u16], t: u8, number: u64) -> Option<Vec<u8>> {
+fn edit_that_gets(
+    b: &mut Builder,
+    table: &mut [u16],
+    t: u8,
+    number: u64,
+    any: AnyEdit,
+) -> Option<Vec<u8>> {
     for _ in 0..400 {
-        let edit = random_edit(b, table);
+        let edit = any(b, table);
         let mut after = table.to_vec();
         if b.answer_to(&mut after, &edit, t) == number {
             table.copy_from_slice(&after);
@@ -462,14 +480,20 @@ fn edit_that_gets(b: &mut Builder, table: &mut [u16], t: u8, number: u64) -> Opt
 }
 
 /// Done edits, one that gets this answer, and one more that would be done after.
-fn refused_after(b: &mut Builder, t: u8, done: usize, number: u64) -> Option<Vec<u8>> {
+pub fn refused_after(
+    b: &mut Builder,
+    t: u8,
+    done: usize,
+    number: u64,
+    any: AnyEdit,
+) -> Option<Vec<u8>> {
     let mut table = b.machine.table.clone();
     let mut bytes = Vec::new();
     for _ in 0..done {
-        bytes.extend(edit_that_gets(b, &mut table, t, 0)?);
+        bytes.extend(edit_that_gets(b, &mut table, t, 0, any)?);
     }
-    bytes.extend(edit_that_gets(b, &mut table, t, number)?);
-    bytes.extend(edit_that_gets(b, &mut table, t, 0)?);
+    bytes.extend(edit_that_gets(b, &mut table, t, number, any)?);
+    bytes.extend(edit_that_gets(b, &mut table, t, 0, any)?);
     Some(bytes)
 }
 
@@ -479,14 +503,14 @@ fn each_refusal(b: &mut Builder) {
     for t in [0, 12, 64] {
         for number in 9..13 {
             for done in [0, 1, 2, 9] {
-                if let Some(mut bytes) = refused_after(b, t, done, number) {
+                if let Some(mut bytes) = refused_after(b, t, done, number, random_edit) {
                     bytes.push(0x45);
                     b.add(Command::Roll { t, bytes });
                 }
             }
         }
         for done in [0, 1, 2, 9] {
-            if let Some(mut bytes) = refused_after(b, t, done, 0) {
+            if let Some(mut bytes) = refused_after(b, t, done, 0, random_edit) {
                 let cut = b.rng.below(6);
                 bytes.truncate(bytes.len() - cut);
                 bytes.extend(b.rng.pick(&[&[][..], &[0x45, 0x45], &[0x46], &[0x53]]));
@@ -505,7 +529,8 @@ fn long_rolls(b: &mut Builder) {
     let mut table = b.machine.table.clone();
     let mut bytes = Vec::new();
     for _ in 0..3000 {
-        bytes.extend(edit_that_gets(b, &mut table, t, 0).unwrap_or_default());
+        let edit = edit_that_gets(b, &mut table, t, 0, random_edit);
+        bytes.extend(edit.unwrap_or_default());
     }
     bytes.push(0x45);
     let again = bytes.clone();
@@ -519,7 +544,7 @@ fn long_rolls(b: &mut Builder) {
     let stick = b.sticks()[0];
     let mut bytes = Vec::new();
     for i in 0..5000 {
-        bytes.extend(b.edit(stick, Some((i % 255 + 1) as u8)));
+        bytes.extend(b.edit(stick, Action::Slide((i % 255 + 1) as u8)));
     }
     bytes.push(0x45);
     b.add(Command::Roll { t, bytes });
@@ -555,7 +580,7 @@ pub fn roll(b: &mut Builder) {
         }
         let t = TOLERANCES[i % 9];
         let tries = b.rng.between(1, 40);
-        let bytes = random_roll(b, t, tries);
+        let bytes = random_roll(b, t, tries, random_edit);
         b.add(Command::Roll { t, bytes });
     }
     for state in 0..4 {

@@ -6,7 +6,7 @@ use std::cmp::Ordering;
 
 use crate::cases::{call, traced};
 use crate::contour::{contours, Contour};
-use crate::hold::ask_1_to_7;
+use crate::hold::{ask_1_to_7, offset, State};
 use crate::layer::Layer;
 use crate::machine::Machine;
 use crate::picture;
@@ -18,7 +18,8 @@ use crate::smooth::{
     joined, new_offset, pass, smooth_contour, smooth_each, smooth_former, Smoothed,
 };
 
-/// A layer as it is smoothed: its contours, and its table with every vertex kept.
+/// A layer as it is smoothed: its contours, and its table with every vertex kept, some of
+/// them pinned or none.
 struct Work {
     layer: Layer,
     walks: Vec<Contour>,
@@ -43,6 +44,14 @@ impl Work {
     fn slide(&mut self, rng: &mut Rng, sticks: impl IntoIterator<Item = usize>) {
         for stick in sticks {
             self.table[stick] = rng.between(1, 255) as u16;
+        }
+    }
+
+    fn pin(&mut self, rng: &mut Rng, sixteenths: usize) {
+        for stick in self.walks.concat() {
+            if rng.chance(sixteenths, 16) {
+                self.table[stick] = State::Pinned.at(offset(self.table[stick]));
+            }
         }
     }
 
@@ -206,7 +215,8 @@ fn by_itself(
     None
 }
 
-/// Random layers with many contours, and nested ones, each with a random limit.
+/// Random layers with many contours, and nested ones, each with a random limit, and with
+/// pins too.
 fn contours_apart(wrong: &mut Vec<String>, rng: &mut Rng) {
     let mut layers = picture::nested();
     layers.extend([
@@ -225,7 +235,9 @@ fn contours_apart(wrong: &mut Vec<String>, rng: &mut Rng) {
     let mut most = 0;
     for layer in layers {
         let slid = rng.chance(3, 4);
-        let work = Work::new(rng, layer, slid);
+        let mut work = Work::new(rng, layer, slid);
+        let pinned = rng.pick(&[0, 0, 2, 12]);
+        work.pin(rng, pinned);
         most = most.max(work.walks.len());
         let limit = rng.pick(&[0, 1, 2, 5, 8, 9, 10, 11, 20, 65535]);
         if let Some(what) = wrong_with(rng, &work, limit) {

@@ -2,7 +2,7 @@
 // command by command.
 
 use crate::contour::contours;
-use crate::hold::{ask_1_to_7, ask_held, is_kept, offset};
+use crate::hold::{ask_1_to_7, ask_held, offset, State};
 use crate::layer::{ask_1_to_5, refuse, Layer, Refusal};
 
 /// "L (hex 4C), W, H (16 bits, low byte first)."
@@ -22,9 +22,15 @@ fn contour_command(layer: &Layer, contour: &[usize]) -> Vec<u8> {
     command
 }
 
-/// "K (hex 4B, kept) or R (hex 52, removed) and its offset byte."
+/// "K (hex 4B, kept) or R (hex 52, removed) and its offset byte", and Note 5: "N (hex
+/// 4E) and the offset for a pinned one."
 fn vertex_command(entry: u16) -> Vec<u8> {
-    vec![if is_kept(entry) { 0x4B } else { 0x52 }, offset(entry)]
+    let letter = match State::of(entry).expect("question 6 is passed") {
+        State::Free => 0x4B,
+        State::Removed => 0x52,
+        State::Pinned => 0x4E,
+    };
+    vec![letter, offset(entry)]
 }
 
 /// Writing a sheet into an output; the sheet's length. Questions 1 to 7 and 14.
@@ -67,12 +73,13 @@ impl Reader<'_> {
         Ok(())
     }
 
-    /// K or R with an offset of 1 to 255 ("treats an offset of 0 as 8"), as the
+    /// K, R or N with an offset of 1 to 255 ("treats an offset of 0 as 8"), as the
     /// entry that it describes.
     fn vertex(&mut self) -> Result<u16, Refusal> {
         let entry = match self.sheet[self.place..] {
-            [0x4B, offset, ..] if offset > 0 => offset as u16,
-            [0x52, offset, ..] if offset > 0 => 256 + offset as u16,
+            [0x4B, offset, ..] if offset > 0 => State::Free.at(offset),
+            [0x52, offset, ..] if offset > 0 => State::Removed.at(offset),
+            [0x4E, offset, ..] if offset > 0 => State::Pinned.at(offset),
             _ => return refuse(8, self.place),
         };
         self.place += 2;

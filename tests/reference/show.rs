@@ -58,6 +58,7 @@ fn roll(bytes: &[u8]) -> String {
         text += &match edit.action {
             Action::Slide(offset) => format!("  {}: slide {} to {}\n", edit.place, stick, offset),
             Action::Remove => format!("  {}: remove {}\n", edit.place, stick),
+            Action::Pin => format!("  {}: pin {}\n", edit.place, stick),
         };
     }
     text

@@ -2,7 +2,7 @@
 // passes; the inner vertices of passing runs are removed.
 
 use crate::chord::{crosses, slides_at_most};
-use crate::hold::{ask_1_to_7, ask_all_kept, is_removed, offset, vertex_of};
+use crate::hold::{ask_1_to_7, ask_all_kept, is_pinned, is_removed, offset, removed, vertex_of};
 use crate::layer::{Layer, Refusal};
 
 /// "The answer is the vertices removed and the runs tried, single edges
@@ -25,14 +25,17 @@ impl Runs<'_> {
     }
 
     /// "A run passes if it is a single edge, or if its chord crosses each stick
-    /// between and each vertex there would slide at most T."
+    /// between and each vertex there would slide at most T." Note 5, of a pinned vertex:
+    /// "Simplify lets no run pass that has one strictly inside."
     pub fn passes(&self, table: &[u16], start: usize, edges: usize) -> bool {
         let a = vertex_of(self.layer, table, self.stick(start));
         let b = vertex_of(self.layer, table, self.stick(start + edges));
         (start + 1..start + edges).all(|i| {
             let stick = self.stick(i);
             let edge = self.layer.edge(stick);
-            crosses(a, b, edge) && slides_at_most(a, b, edge, offset(table[stick]), self.t)
+            !is_pinned(table[stick])
+                && crosses(a, b, edge)
+                && slides_at_most(a, b, edge, offset(table[stick]), self.t)
         })
     }
 
@@ -41,7 +44,8 @@ impl Runs<'_> {
         let passes = self.passes(table, start, edges);
         if passes {
             for i in start + 1..start + edges {
-                table[self.stick(i)] += 256;
+                let stick = self.stick(i);
+                table[stick] = removed(table[stick]);
             }
         }
         passes

@@ -6,7 +6,7 @@ use std::cmp::Ordering;
 
 use crate::chord::{meets, Fraction};
 use crate::contour::Contour;
-use crate::hold::{ask_1_to_7, ask_all_kept, offset, vertex_of};
+use crate::hold::{ask_1_to_7, ask_all_kept, is_pinned, offset, vertex_of, State};
 use crate::layer::{Layer, Refusal};
 
 /// "The answer is passes, last total (0 if none) and settled or limit", of one
@@ -39,17 +39,21 @@ pub fn new_offset(old: u8, v: Fraction) -> u8 {
 }
 
 /// "The segment between the neighbours meets the closed stick at v, an exact
-/// fraction in 0 to 256."
+/// fraction in 0 to 256." The absolute change; Note 5: "Smooth skips pinned vertices:
+/// they add 0 to the total and count among the vertices."
 fn slide(rule: Rule, layer: &Layer, contour: &[usize], table: &mut [u16], i: usize) -> u64 {
     let n = contour.len();
     let stick = contour[i];
+    if is_pinned(table[stick]) {
+        return 0;
+    }
     let before = vertex_of(layer, table, contour[(i + n - 1) % n]);
     let after = vertex_of(layer, table, contour[(i + 1) % n]);
     let v = meets(before, after, layer.edge(stick))
         .expect("the neighbours lie on the two sides of the stick");
     let old = offset(table[stick]);
     let new = rule(old, v);
-    table[stick] = new as u16;
+    table[stick] = State::Free.at(new);
     (new as i64 - old as i64).unsigned_abs()
 }
 

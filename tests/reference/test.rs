@@ -9,14 +9,17 @@ use crate::contour::contours;
 use crate::depth::depths;
 use crate::flood;
 use crate::halves;
-use crate::hold::{contour_is_held, is_kept, is_removed};
+use crate::hold::{contour_is_held, is_kept, is_pinned, is_removed, offset, State};
 use crate::layer::{ask_1_to_4, Layer};
 use crate::machine::{answers, Machine};
 use crate::order;
 use crate::pending::{self, Order};
 use crate::picture;
+use crate::pins;
+use crate::pins_vectors;
 use crate::planner::planner;
 use crate::prng::Rng;
+use crate::roll::Action;
 use crate::script::{parse, Command};
 use crate::sets::{script, SETS};
 use crate::settling;
@@ -238,26 +241,28 @@ fn outcome(machine: &Machine, edit: &[u8], t: i128) -> u64 {
     call(&mut machine.clone(), Command::Roll { t: t as u8, bytes }).number
 }
 
-/// One random edit of a kept vertex against the slow checks: 11 if no T will do,
-/// else done with the least T and 12 below it.
+/// One random edit of a kept vertex against the slow checks: 16 with any T if it is
+/// pinned, else 11 if no T will do, else done with the least T and 12 below it.
 fn edits(wrong: &mut Wrong, b: &mut Builder, layer: &Layer) {
     let mut table = b.machine.table.clone();
     let kept: Vec<usize> = (0..table.len()).filter(|&n| is_kept(table[n])).collect();
     let stick = b.rng.pick(&kept);
-    let offset = b.rng.between(1, 255) as u8;
-    let slide = if b.rng.chance(1, 2) {
-        Some(offset)
-    } else {
-        None
+    let new = b.rng.between(1, 255) as u8;
+    let slides = b.rng.chance(1, 2);
+    let pinned = is_pinned(table[stick]);
+    let (action, after) = match slides {
+        true => (Action::Slide(new), State::Free.at(new)),
+        false => (Action::Remove, State::Removed.at(offset(table[stick]))),
     };
-    table[stick] = slide.map_or(table[stick] + 256, |offset| offset as u16);
+    table[stick] = after;
     let walks = contours(layer);
     let walk = walks
         .iter()
         .find(|walk| walk.contains(&stick))
         .expect("a stick is on one");
-    let edit = b.edit(stick, slide);
+    let edit = b.edit(stick, action);
     let right = match brute::edit_tolerance(layer, walk, &table, stick) {
+        _ if pinned => [0, 255].map(|t| outcome(&b.machine, &edit, t)) == [16, 16],
         None => outcome(&b.machine, &edit, 255) == 11,
         Some(0) => outcome(&b.machine, &edit, 0) == 0,
         Some(t) => outcome(&b.machine, &edit, t) == 0 && outcome(&b.machine, &edit, t - 1) == 12,
@@ -312,7 +317,7 @@ fn listed(wrong: &mut Wrong, machine: &Machine, layer: &Layer) {
 
 /// The order of the planner's list against the slow reading: on every layer of 4
 /// by 4 and of 5 by 5, and on nested and random ones, as traced and with vertices
-/// removed.
+/// removed and pinned.
 fn orders(wrong: &mut Wrong, seed: u64) {
     let mut b = Builder::new(seed);
     let mut layers: Vec<Layer> = picture::every(4).chain(picture::every(5)).collect();
@@ -327,6 +332,7 @@ fn orders(wrong: &mut Wrong, seed: u64) {
         b.traced(&layer);
         let traced = b.machine.table.clone();
         b.remove_firsts(3);
+        b.pin(4);
         b.thin(8);
         for table in [&traced, &b.machine.table] {
             if let Some(what) = order::wrong_with(&layer, table) {
@@ -336,15 +342,19 @@ fn orders(wrong: &mut Wrong, seed: u64) {
     }
 }
 
-/// A random edit roll of one to three edits on any edge.
-fn random_roll(b: &mut Builder) -> Vec<u8> {
+/// A random edit roll of one to three edits on any stick, with pins or without.
+fn random_roll(b: &mut Builder, pins: bool) -> Vec<u8> {
     let mut bytes = Vec::new();
     let sticks = b.sticks();
     for _ in 0..b.rng.between(1, 3) {
         let stick = b.rng.pick(&sticks);
-        let offset = b.rng.below(256) as u8;
-        let slide = b.rng.chance(1, 2);
-        bytes.extend(b.edit(stick, if slide { Some(offset) } else { None }));
+        let slide = Action::Slide(b.rng.below(256) as u8);
+        let action = match b.rng.below(if pins { 5 } else { 4 }) {
+            0 | 1 => slide,
+            2 | 3 => Action::Remove,
+            _ => Action::Pin,
+        };
+        bytes.extend(b.edit(stick, action));
     }
     bytes.push(0x45);
     bytes
@@ -352,7 +362,7 @@ fn random_roll(b: &mut Builder) -> Vec<u8> {
 
 /// One random call on the builder's machine; 13 is never given, since an edge
 /// that would leave two kept vertices misses a stick.
-fn random_call(wrong: &mut Wrong, b: &mut Builder, layer: &Layer) {
+fn random_call(wrong: &mut Wrong, b: &mut Builder, layer: &Layer, pins: bool) {
     let t = b.rng.pick(&[0, 12, 64, 128, 255]);
     match b.rng.below(5) {
         0 => {
@@ -361,7 +371,7 @@ fn random_call(wrong: &mut Wrong, b: &mut Builder, layer: &Layer) {
         1 => simplified(wrong, &mut b.machine, layer, t),
         _ => {
             let before = b.machine.table.clone();
-            let bytes = random_roll(b);
+            let bytes = random_roll(b, pins);
             let answer = call(&mut b.machine, Command::Roll { t, bytes });
             let changed = before
                 .iter()
@@ -374,14 +384,15 @@ fn random_call(wrong: &mut Wrong, b: &mut Builder, layer: &Layer) {
     }
 }
 
-/// Lists of random calls on small layers; the layer stays faithful.
+/// Lists of random calls on small layers, half of them with pins; the layer stays
+/// faithful.
 fn call_lists(wrong: &mut Wrong, seed: u64) {
     let mut b = Builder::new(seed);
-    for _ in 0..150 {
+    for i in 0..150 {
         let layer = b.some_layer(9);
         b.traced(&layer);
         for _ in 0..12 {
-            random_call(wrong, &mut b, &layer);
+            random_call(wrong, &mut b, &layer, i % 2 == 0);
             edits(wrong, &mut b, &layer);
             let table = &b.machine.table;
             expect(wrong, faithful(&layer, table), || {
@@ -393,14 +404,15 @@ fn call_lists(wrong: &mut Wrong, seed: u64) {
     }
 }
 
-/// Held or not: the calls' check against the slow one, with vertices removed at
-/// random.
+/// Held or not: the calls' check against the slow one, with vertices removed and pinned
+/// at random.
 fn held_or_not(wrong: &mut Wrong, rng: &mut Rng) {
     for _ in 0..400 {
         let layer = picture::blocks(rng, 8);
         let mut table = traced(&layer).table;
         for entry in table.iter_mut().filter(|entry| **entry != 0) {
-            *entry = rng.between(1, 255) as u16 + if rng.chance(1, 4) { 256 } else { 0 };
+            let state = rng.pick(&[State::Free, State::Free, State::Removed, State::Pinned]);
+            *entry = state.at(rng.between(1, 255) as u8);
         }
         for walk in contours(&layer) {
             let right = contour_is_held(&layer, &walk, &table)
@@ -420,6 +432,7 @@ fn wanted_numbers(name: &str) -> Vec<u64> {
         "roll" => vec![0, 1, 2, 3, 4, 5, 6, 7, 8, 9, 10, 11, 12],
         "sheet" => vec![0, 1, 2, 3, 4, 5, 6, 7, 8, 14],
         "planner" => vec![0, 1, 2, 3, 4, 5, 6, 7, 14],
+        "pins" => vec![0, 6, 7, 8, 9, 10, 11, 12, 14, 15, 16],
         _ => vec![0],
     }
 }
@@ -439,8 +452,7 @@ fn sets(wrong: &mut Wrong, seed: Option<u64>) {
         let damaged = parse(&bytes[..bytes.len() - 1]).is_err()
             && parse(&[&bytes[..], &[0]].concat()).is_err();
         expect(wrong, damaged, || format!("damage of the set {}", set.name));
-        refusals_write_nothing(wrong, &commands);
-        let lines = answers(&commands);
+        let lines = refusals_write_nothing(wrong, &commands);
         let main: Vec<&str> = lines
             .lines()
             .filter(|line| is_main(set.name, line))
@@ -461,9 +473,11 @@ fn sets(wrong: &mut Wrong, seed: Option<u64>) {
     }
 }
 
-/// "A refusal leaves all buffers as found, but for earlier commands of a roll."
-fn refusals_write_nothing(wrong: &mut Wrong, commands: &[Command]) {
+/// "A refusal leaves all buffers as found, but for earlier commands of a roll." The lines
+/// that answer the script.
+fn refusals_write_nothing(wrong: &mut Wrong, commands: &[Command]) -> String {
     let mut machine = Machine::default();
+    let mut lines = String::new();
     for command in commands {
         if matches!(command, Command::Poke { .. }) {
             machine.run(command);
@@ -476,8 +490,10 @@ fn refusals_write_nothing(wrong: &mut Wrong, commands: &[Command]) {
             expect(wrong, may_write || machine.table == before, || {
                 format!("a refused {:?} wrote", command)
             });
+            lines += &machine.line(command.letter(), &answer);
         }
     }
+    lines
 }
 
 /// The set for Roll has each refusal 8 to 12 at the first command and at a later
@@ -552,6 +568,7 @@ fn is_main(name: &str, line: &str) -> bool {
         "roll" => "R",
         "sheet" => "WD",
         "planner" => "L",
+        "pins" => "TNSYRWDL",
         "lists" | "large" => "TDSYR",
         _ => "G",
     };
@@ -573,6 +590,8 @@ pub fn wrong(seed: Option<u64>) -> Vec<String> {
     sets(&mut wrong, seed);
     wrong.extend(settling::wrong(&mut rng));
     wrong.extend(pending::wrong(rng.next()));
+    wrong.extend(pins::wrong(rng.next()));
+    wrong.extend(pins_vectors::wrong());
     stops(&mut wrong);
     order_shows(&mut wrong);
     wrong

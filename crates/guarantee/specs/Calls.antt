@@ -2,10 +2,13 @@
 -- left it. Each call gets W, H and the bitmap of that opening call, and the table as the call before it left it, done, refused or stopped
 -- partway through a roll." The functions of src/ make these calls and promise to leave the tables that are defined here.
 use mathlib.Core.Path.{_≡_}
+use mathlib.Core.Bool.{Bool, true, false, not}
 use mathlib.Core.List.{List, foldl}
 use Prim.Native.Nat.{ℕ, _<_}
 use lib.ListN.{getD}
+use Rattle.arith.specs.Lists.{each}
 use Rattle.grid.specs.Layer.{Layer}
+use Rattle.table.specs.Pins.{PinsStay}
 use Rattle.faithful.specs.Faithful.{Faithful}
 use Rattle.trace.specs.Trace.{traceOf}
 use Rattle.smooth.specs.Call.{smoothOf}
@@ -63,3 +66,17 @@ opened L t (bySheet sheet) = readOf L t (sheet .bytes) .table
 abbrev pub Guarantee : Type 0
 Guarantee = (L : Layer) (t : List ℕ) (opening : Opening) → OpeningAccepted L t opening → (calls : List Call)
     → Faithful L (afterAll L (opened L t opening) calls)
+
+-- Beside it, Note 5: a pinned vertex' "offset is the same after any sequence that doesn't trace or read a sheet". Trace and reading a sheet set
+-- pins anew.
+abbrev pub setsPins : Call → Bool
+setsPins trace = true
+setsPins (read sheet) = true
+setsPins (smooth limit) = false
+setsPins (simplify tolerance) = false
+setsPins (roll commands tolerance) = false
+
+-- On whatever layer and table the list begins, and whatever its calls bring: an entry that is pinned then is the same entry after it.
+-- proofs/Guarantee.antt proves it.
+abbrev pub PinsHold : Type 0
+PinsHold = (L : Layer) (t : List ℕ) (calls : List Call) → each (λ call. not (setsPins call)) calls ≡ true → PinsStay t (afterAll L t calls)

@@ -11,15 +11,20 @@ use Rattle.grid.specs.Questions.{firstNo, ifAllYes, numberOf}
 use Rattle.table.specs.Entries.{encoded, lengthQuestions}
 use Rattle.table.specs.Stores.{store}
 use Rattle.table.specs.declared.entry.Entry.{Entry}
-use Rattle.table.specs.declared.entry.Entry.the-variants.{Nothing, Kept, Removed}
+use Rattle.table.specs.declared.entry.Entry.the-variants.{Nothing, Kept, Removed, Pinned}
 use Rattle.held.specs.Held.{heldAnswer}
 use Rattle.formed.specs.Expected.{Expected, these, vertexOf, expectedSheet, sheetAnswer}
 use Rattle.reading.specs.declared.read.SheetRead.{SheetRead}
 use Rattle.reading.specs.declared.read.SheetRead.the-variants.{Done, Refused}
 
--- the entry that the vertex command at i gives its stick: "K (hex 4B, kept) or R (hex 52, removed) and its offset byte"
+-- the entry that a vertex command gives its stick, by its letter and offset: "K (hex 4B, kept) or R (hex 52, removed) and its offset byte", and
+-- "N (hex 4E) and the offset for a pinned one" (Note 5); question 8 lets no other letter pass
+abbrev pub entryBy : ℕ → ℕ → Entry
+entryBy letter offset = cond (eqb letter 0x52) (Removed offset) (cond (eqb letter 0x4E) (Pinned offset) (Kept offset))
+
+-- of the command at i
 abbrev pub entryFrom : List ℕ → ℕ → Entry
-entryFrom s i = cond (eqb (getD s i 0) 0x52) (Removed (getD s (i + 1) 0)) (Kept (getD s (i + 1) 0))
+entryFrom s i = entryBy (getD s i 0) (getD s (i + 1) 0)
 
 -- reading partway: the place of the next command, and the table so far
 pub record Reading : Type 0 where
