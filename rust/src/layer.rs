@@ -127,7 +127,7 @@ impl<'a> Layer<'a> {
         Ok(Counts { inside, sticks, contours })
     }
 
-    /// Keeps every stick at 128, whatever the table held. Questions 1 to 5.
+    /// Keeps every stick at 128, none pinned, whatever the table held. Questions 1 to 5.
     ///
     /// ```
     /// # use puzhenim::Layer;
@@ -141,8 +141,9 @@ impl<'a> Layer<'a> {
         accepted(raw::trace(*self, table)).map(drop)
     }
 
-    /// Smooths each contour by passes until it is settled, by at most `limit`; every vertex stays strictly inside its stick. A contour is settled
-    /// after a pass that moves its vertices by less than a thousandth of the pitch on average. Questions 1 to 7 and 15.
+    /// Smooths each contour by passes until it is settled, by at most `limit`; every vertex stays strictly inside its stick, and a pinned one
+    /// where it is. A contour is settled after a pass that moves its vertices, the pinned ones counted, by less than a thousandth of the pitch
+    /// on average. Questions 1 to 7 and 15.
     ///
     /// ```
     /// # use puzhenim::{Layer, Smoothed};
@@ -158,7 +159,7 @@ impl<'a> Layer<'a> {
         Ok(Smoothed { passes, total, settled: settled == 1 })
     }
 
-    /// Removes vertices that slide at most `tolerance`, in 1/256 of the pitch. Questions 1 to 7 and 15.
+    /// Removes vertices that slide at most `tolerance`, in 1/256 of the pitch, and no pinned one. Questions 1 to 7 and 15.
     ///
     /// ```
     /// # use puzhenim::{Layer, Simplified};
@@ -173,8 +174,9 @@ impl<'a> Layer<'a> {
         Ok(Simplified { removed, tried })
     }
 
-    /// Applies an edit roll and answers the commands done. A refused edit leaves those before it done. Questions 1 to 8, then 9 to 13 of
-    /// each command.
+    /// Applies an edit roll and answers the commands done. S, a stick and an offset slide a vertex; X and a stick remove one; P and a stick pin
+    /// one, and a pin on a pinned vertex is done and alters nothing; E ends the roll. A refused edit leaves those before it done. Questions 1
+    /// to 8, then of a slide or removal 9, 16 and 10 to 13, of a pin 9 alone.
     ///
     /// ```
     /// # use puzhenim::{Layer, Refusal};
@@ -185,6 +187,9 @@ impl<'a> Layer<'a> {
     /// assert_eq!(table[2], 255);
     /// let refused = layer.roll(&mut table, b"S\0\0\0\x01\0\0E", 64);
     /// assert_eq!(refused, Err(Refusal::BadOffset { byte: 0, done: 0 }));
+    /// let refused = layer.roll(&mut table, b"P\0\0\0\x01\0X\0\0\0\x01\0E", 64);
+    /// assert_eq!(refused, Err(Refusal::VertexPinned { byte: 6, done: 1 }));
+    /// assert_eq!(table[2], 512 + 255);
     /// # Ok::<(), puzhenim::Refusal>(())
     /// ```
     pub fn roll(&self, table: &mut [u16], roll: &[u8], tolerance: u8) -> Result<u64, Refusal> {
@@ -225,7 +230,7 @@ impl<'a> Layer<'a> {
         Ok(sheet)
     }
 
-    /// Reads a sheet into the table, whatever that held. Questions 1 to 5, 8, 7.
+    /// Reads a sheet into the table, whatever that held; pinned are the vertices with N. Questions 1 to 5, 8, 7.
     ///
     /// ```
     /// # use puzhenim::{Layer, Refusal};

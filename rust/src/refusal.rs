@@ -46,12 +46,15 @@ pub enum Refusal {
     ShortOutput,
     /// 15: the vertex of this entry is removed, and the call wants every vertex kept.
     SomeRemoved { entry: u64 },
+    /// 16, put after 9 and before 10: the vertex to be slid or removed is pinned. Only tracing anew or reading a sheet without the pin takes
+    /// a pin away.
+    VertexPinned { byte: u64, done: u64 },
 }
 
 use Refusal::*;
 
 impl Refusal {
-    /// The refusal of this number and place, for a command of a roll after so many done. A number is 1 to 15, as each call promises.
+    /// The refusal of this number and place, for a command of a roll after so many done. A number is 1 to 16, as each call promises.
     pub(crate) fn new(number: u32, place: u64, done: u64) -> Refusal {
         match number {
             1 => BadSides,
@@ -68,11 +71,12 @@ impl Refusal {
             12 => BeyondTolerance { byte: place, done },
             13 => TooFewKept { byte: place, done },
             14 => ShortOutput,
-            _ => SomeRemoved { entry: place },
+            15 => SomeRemoved { entry: place },
+            _ => VertexPinned { byte: place, done },
         }
     }
 
-    /// The number of the question that was answered no, 1 to 15.
+    /// The number of the question that was answered no, 1 to 16.
     pub fn number(&self) -> u32 {
         match self {
             BadSides => 1,
@@ -90,6 +94,7 @@ impl Refusal {
             TooFewKept { .. } => 13,
             ShortOutput => 14,
             SomeRemoved { .. } => 15,
+            VertexPinned { .. } => 16,
         }
     }
 
@@ -105,7 +110,8 @@ impl Refusal {
             | BadOffset { byte, .. }
             | NoCrossing { byte, .. }
             | BeyondTolerance { byte, .. }
-            | TooFewKept { byte, .. } => byte,
+            | TooFewKept { byte, .. }
+            | VertexPinned { byte, .. } => byte,
         }
     }
 
@@ -116,7 +122,8 @@ impl Refusal {
             | BadOffset { done, .. }
             | NoCrossing { done, .. }
             | BeyondTolerance { done, .. }
-            | TooFewKept { done, .. } => Some(done),
+            | TooFewKept { done, .. }
+            | VertexPinned { done, .. } => Some(done),
             _ => None,
         }
     }
@@ -138,6 +145,7 @@ impl Refusal {
             TooFewKept { .. } => "fewer than three kept vertices would be left",
             ShortOutput => "an output does not hold the whole answer",
             SomeRemoved { .. } => "a vertex is removed where all must be kept",
+            VertexPinned { .. } => "the vertex is pinned, and only tracing anew or reading a sheet without the pin takes a pin away",
         }
     }
 }

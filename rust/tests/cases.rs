@@ -171,7 +171,7 @@ fn the_last_three_kept_vertices_stay() {
         }
     };
     assert!(last.iter().all(|answer| matches!(answer.unwrap_err().number(), 9 | 11 | 12 | 13)));
-    assert!(table.iter().filter(|entry| matches!(Vertex::of(**entry), Some(Vertex::Kept(_)))).count() >= 3);
+    assert!(table.iter().filter_map(|entry| Vertex::of(*entry)).filter(Vertex::is_kept).count() >= 3);
 }
 
 #[test]

@@ -218,6 +218,45 @@ fn a_roll_that_is_refused_writes_nothing() {
     assert_eq!(words, "puzhenim: cut: the roll or sheet is not well formed: command at byte 7 (question 8)\n");
 }
 
+/// The sheet with the vertex on its first stick pinned.
+const PINNED: &[u8] = b"L\x03\0\x03\0C\0\0\0\x01\0N\xFFK\xFFK\x01K\x01E";
+
+#[test]
+fn a_roll_pins_a_vertex() {
+    let folder = Folder::new("pin");
+    folder.put("sheet", SHEET);
+    folder.put("pin", b"P\0\0\0\x01\0E");
+    let pin = ["roll", &example("sample.layer"), "sheet", "pin", "-o", "sheet"];
+    assert_eq!(folder.done(&pin), "commands done: 1\n");
+    assert_eq!(folder.get("sheet"), PINNED);
+    assert_eq!(folder.done(&pin), "commands done: 1\n");
+    assert_eq!(folder.get("sheet"), PINNED);
+}
+
+#[test]
+fn a_pinned_vertex_stays_where_it_is() {
+    let folder = Folder::new("pinned");
+    folder.put("sheet", PINNED);
+    folder.put("slide", b"S\0\0\0\x01\0\x80E");
+    folder.put("remove", b"S\x01\x01\0\0\0\x80X\0\0\0\x01\0E");
+    for (roll, command, byte) in [("slide", 1, 0), ("remove", 2, 7)] {
+        let words = folder.fails(1, &["roll", &example("sample.layer"), "sheet", roll, "-o", "sheet"]);
+        let expected = format!(
+            "puzhenim: {}: the vertex is pinned, and only tracing anew or reading a sheet without the pin takes a pin away: \
+             command {} of the roll, at byte {} (question 16)\nCommands done before it: {}. Nothing is written.\n",
+            roll,
+            command,
+            byte,
+            command - 1
+        );
+        assert_eq!(words, expected);
+    }
+    // The sheet without the pin.
+    folder.put("sheet", SHEET);
+    folder.done(&["roll", &example("sample.layer"), "sheet", "slide", "-o", "sheet"]);
+    assert_eq!(folder.get("sheet")[11..13], [b'K', 128]);
+}
+
 #[test]
 fn plans_as_text_and_as_bytes() {
     let folder = Folder::new("plan");
@@ -271,6 +310,10 @@ fn checks_a_sheet() {
         "removed vertices        0",
     ];
     assert_eq!(figures, expected);
+    folder.put("pinned", PINNED);
+    let report = folder.done(&["check", &example("sample.layer"), "pinned"]);
+    let vertices: Vec<&str> = report.lines().skip(4).collect();
+    assert_eq!(vertices, ["kept vertices           4", "of these pinned         1", "removed vertices        0"]);
     folder.put("removed", &[&SHEET[..11], b"R", &SHEET[12..]].concat());
     let words = folder.fails(1, &["check", &example("sample.layer"), "removed"]);
     let expected = "puzhenim: removed: the layer is not held: contour that starts at stick 2 (question 7)\n\
@@ -292,6 +335,53 @@ fn draws_outlines_and_bores() {
     assert!(text(&folder.get("sliced.svg")).contains("removed vertex"));
 }
 
+/// The points at which a picture has marks of this class within the grid, in 1/256 of the pitch.
+fn marks(picture: &str, class: &str) -> Vec<String> {
+    let begin = format!("<path class=\"dot {}\" ", class);
+    let path = picture.lines().find_map(|line| line.strip_prefix(&begin)?.split("d=\"").nth(1)?.split('"').next());
+    path.unwrap_or("").split_terminator("h0").map(String::from).collect()
+}
+
+/// The texts of a picture's legend.
+fn legend(picture: &str) -> Vec<&str> {
+    let shown = picture.lines().filter(|line| line.contains("</text>")).skip(2);
+    shown.filter_map(|line| line.strip_suffix("</text>")?.rsplit('>').next()).collect()
+}
+
+#[test]
+fn draws_pinned_vertices_by_a_mark_of_their_own() {
+    let folder = Folder::new("pins");
+    let drawn = |sheet: &[u8]| {
+        folder.put("sheet", sheet);
+        folder.done(&["draw", &example("sample.layer"), "sheet", "-o", "picture"]);
+        text(&folder.get("picture"))
+    };
+    let picture = drawn(PINNED);
+    assert_eq!(marks(&picture, "pinned"), ["M255 256"]);
+    assert_eq!(marks(&picture, "kept-outline").len(), 4);
+    assert!(picture.contains("vertices: 4 kept (1 pinned), 0 removed</text>"));
+    assert!(picture.contains("\n.pinned{"));
+    let all = ["outline, inside shaded", "inside sample", "outside sample", "kept vertex", "pinned vertex"];
+    assert_eq!(legend(&picture), all);
+    // With all of them pinned, no mark of a kept vertex is to be seen.
+    let picture = drawn(b"L\x03\0\x03\0C\0\0\0\x01\0N\xFFN\xFFN\x01N\x01E");
+    assert_eq!(marks(&picture, "pinned"), ["M255 256", "M257 256", "M256 255", "M256 257"]);
+    assert!(picture.contains("vertices: 4 kept (4 pinned), 0 removed</text>"));
+    assert_eq!(legend(&picture), [&all[..3], &all[4..]].concat());
+    let picture = drawn(SHEET);
+    assert!(!picture.contains("pinned"));
+    assert_eq!(legend(&picture), all[..4]);
+}
+
+#[test]
+fn draws_the_picture_of_the_documents() {
+    let folder = Folder::new("documents");
+    folder.done(&["slice", &example("block.pbm"), "-o", "block.sheet"]);
+    folder.done(&["draw", &example("block.pbm"), "block.sheet", "-o", "block.svg"]);
+    let documents = fs::read(Path::new(EXAMPLES).join("../docs/block.svg")).unwrap();
+    assert!(folder.get("block.svg") == documents, "docs/block.svg is another picture");
+}
+
 #[test]
 fn a_fine_grid_is_drawn_without_marks() {
     let folder = Folder::new("fine");
@@ -304,6 +394,13 @@ fn a_fine_grid_is_drawn_without_marks() {
     folder.done(&["draw", "fine.pbm", "--pad", "-o", "fine.svg"]);
     let picture = text(&folder.get("fine.svg"));
     assert!(!picture.contains("class=\"dot") && picture.len() < 4_000_000);
+    folder.done(&["slice", "fine.pbm", "--pad", "-o", "sheet", "--passes", "0", "--tolerance", "0"]);
+    let mut pinned = folder.get("sheet");
+    pinned[11] = b'N';
+    folder.put("pinned", &pinned);
+    folder.done(&["draw", "fine.pbm", "pinned", "--pad", "-o", "pinned.svg"]);
+    let picture = text(&folder.get("pinned.svg"));
+    assert!(!picture.contains("class=\"dot") && !picture.contains("pinned vertex") && picture.contains(" (1 pinned), "));
 }
 
 #[test]
@@ -316,6 +413,8 @@ fn help_and_version() {
         assert!(help.starts_with(&format!("puzhenim {} IN", command)));
         assert_eq!(folder.done(&["help", command]), help);
     }
+    assert!(all.contains("(1 to 16)"));
+    assert!(folder.done(&["roll", "--help"]).contains("P and a stick pin one"));
     assert_eq!(folder.done(&["--version"]), format!("puzhenim {}\n", env!("CARGO_PKG_VERSION")));
 }
 

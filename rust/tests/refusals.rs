@@ -47,7 +47,7 @@ fn table() {
     assert_eq!(refused(&[0; 11], |table| SINGLE.trace(table)), Refusal::TableLength);
     assert_eq!(refused(&[0; 13], |table| SINGLE.read_sheet(table, b"")), Refusal::TableLength);
     assert_eq!(SINGLE.counts(&[0; 13]), Err(Refusal::TableLength));
-    for (entry, value) in [(2, 0), (7, 256), (0, 1), (11, 300), (10, 512)] {
+    for (entry, value) in [(2, 0), (7, 256), (0, 1), (11, 300), (10, 512), (3, 768), (2, 65535), (0, 512), (11, 640)] {
         let mut table = traced(SINGLE);
         table[entry] = value;
         let wrong = Refusal::WrongEntry { entry: entry as u64 };
@@ -55,6 +55,11 @@ fn table() {
         assert_eq!(refused(&table, |table| SINGLE.roll(table, b"E", 1)), wrong);
         assert_eq!(SINGLE.sheet(&table), Err(wrong));
         assert_eq!(SINGLE.list(&table), Err(wrong));
+    }
+    for value in [1, 255, 513, 767] {
+        let mut table = traced(SINGLE);
+        table[10] = value;
+        assert_eq!(SINGLE.roll(&mut table, b"E", 1), Ok(0));
     }
 }
 
@@ -83,6 +88,8 @@ fn malformed_sheets() {
     let mut no_offset = good.clone();
     no_offset[12] = 0;
     assert_eq!(read(&no_offset), Refusal::Malformed { byte: 11 });
+    no_offset[11] = b'N';
+    assert_eq!(read(&no_offset), Refusal::Malformed { byte: 11 });
     let mut not_held = good;
     not_held[11] = b'R';
     assert_eq!(read(&not_held), Refusal::NotHeld { stick: 2 });
@@ -96,6 +103,12 @@ fn malformed_rolls() {
     assert_eq!(roll(b"S\0\0\0\x01\0\x01X\0\0E"), Refusal::Malformed { byte: 7 });
     assert_eq!(roll(b"EE"), Refusal::Malformed { byte: 1 });
     assert_eq!(roll(b"Q"), Refusal::Malformed { byte: 0 });
+    // A pin without an end, cut short, and with an offset, which it does not have.
+    assert_eq!(roll(b"P\0\0\0\x01\0"), Refusal::Malformed { byte: 6 });
+    assert_eq!(roll(b"P\0\0\0\x01"), Refusal::Malformed { byte: 0 });
+    assert_eq!(roll(b"P\0\0\0\x01\0\x80E"), Refusal::Malformed { byte: 6 });
+    // The whole roll is looked at before a pin is set.
+    assert_eq!(roll(b"P\0\0\0\x01\0Q"), Refusal::Malformed { byte: 6 });
 }
 
 #[test]
@@ -115,6 +128,21 @@ fn an_edit_says_which_command() {
     let refusal = BAR.roll(&mut table, b"S\x01\x02\0\0\0\x8CX\x01\x02\0\0\0E", 11).unwrap_err();
     assert_eq!(refusal, Refusal::BeyondTolerance { byte: 7, done: 1 });
     let words = "a removed vertex would slide farther than the tolerance: command 2 of the roll, at byte 7 (question 12)";
+    assert_eq!(refusal.to_string(), words);
+}
+
+#[test]
+fn pinned_vertices() {
+    let mut table = traced(SINGLE);
+    table[2] += 512;
+    let roll = |roll: &[u8]| refused(&table, |table| SINGLE.roll(table, roll, 255));
+    // Before 10, which a slide to 0 is refused by otherwise, and before 11, which this removal is refused by otherwise.
+    assert_eq!(roll(b"S\0\0\0\x01\0\0E"), Refusal::VertexPinned { byte: 0, done: 0 });
+    assert_eq!(roll(b"X\0\0\0\x01\0E"), Refusal::VertexPinned { byte: 0, done: 0 });
+    let refusal = roll(b"P\0\0\0\x01\0S\0\0\0\x01\0\x80E");
+    assert_eq!((refusal.number(), refusal.place(), refusal.done()), (16, 6, Some(1)));
+    let words = "the vertex is pinned, and only tracing anew or reading a sheet without the pin takes a pin away: \
+                 command 2 of the roll, at byte 6 (question 16)";
     assert_eq!(refusal.to_string(), words);
 }
 

@@ -7,7 +7,7 @@ use crate::help;
 use crate::job::Job;
 use crate::picture;
 use crate::progress::Progress;
-use puzhenim::{Item, Kind, List, Refusal, Vertex};
+use puzhenim::{Counts, Item, Kind, List, Refusal, Vertex};
 use std::ffi::OsStr;
 use std::path::Path;
 
@@ -132,28 +132,26 @@ fn check(args: &Args) -> Result<(), Failure> {
     progress.step("counting");
     let counts = job.layer().counts(&table).map_err(|refusal| job.refused(refusal))?;
     drop(progress);
-    let (kept, removed) = vertices(&table);
-    let figures = [
-        ("inside samples", counts.inside),
-        ("sticks", counts.sticks),
-        ("contours", counts.contours),
-        ("kept vertices", kept),
-        ("removed vertices", removed),
-    ];
     let mut text = format!("The sheet is good for this layer of {} × {} samples.\n", job.layer().width, job.layer().height);
-    for (name, figure) in figures {
+    for (name, figure) in figures(counts, &table) {
         text += &format!("{:<17}{:>8}\n", name, figure);
     }
     files::say(&text)
 }
 
-/// How many vertices are kept and how many removed.
-fn vertices(table: &[u16]) -> (u64, u64) {
-    table.iter().fold((0, 0), |(kept, removed), entry| match Vertex::of(*entry) {
-        Some(Vertex::Kept(_)) => (kept + 1, removed),
-        Some(Vertex::Removed(_)) => (kept, removed + 1),
-        None => (kept, removed),
-    })
+/// The figures of a sheet. Pinned vertices are among the kept ones, and have a line where there are any.
+fn figures(counts: Counts, table: &[u16]) -> Vec<(&'static str, u64)> {
+    let vertices = || table.iter().filter_map(|entry| Vertex::of(*entry));
+    let kept = vertices().filter(Vertex::is_kept).count();
+    let pinned = vertices().filter(Vertex::is_pinned).count();
+    let removed = vertices().count() - kept;
+    let mut figures = vec![("inside samples", counts.inside), ("sticks", counts.sticks), ("contours", counts.contours)];
+    figures.push(("kept vertices", kept as u64));
+    if pinned > 0 {
+        figures.push(("of these pinned", pinned as u64));
+    }
+    figures.push(("removed vertices", removed as u64));
+    figures
 }
 
 fn draw(args: &Args) -> Result<(), Failure> {

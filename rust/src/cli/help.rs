@@ -22,7 +22,7 @@ each, low byte first, the bitmap). Sides are 2 to 1024 samples, and every border
 sample is outside; --pad, with every command, adds an outside sample all round
 to a PBM. The file name - is standard input or output.
 
-A refusal says which question was answered no (1 to 15) and where, and exits
+A refusal says which question was answered no (1 to 16) and where, and exits
 with status 1, a wrong command line with 2. Then no output file is touched.
 ";
 
@@ -48,8 +48,12 @@ Reads the sheet against the layer, runs the edit roll and writes the new sheet.
 If an edit is refused nothing is written, and the message says which.
 
 A roll is bytes: S, a stick and an offset slide a vertex; X and a stick remove
-one; E ends the roll. A stick is its kind (0 horizontal, 1 vertical), column and
-row, 16 bits each, low byte first.
+one; P and a stick pin one, which is then neither slid nor removed; E ends the
+roll. A stick is its kind (0 horizontal, 1 vertical), column and row, 16 bits
+each, low byte first.
+
+A pinned vertex has N in the sheet, where another kept one has K. No command
+takes a pin away; a sheet that slice writes has none.
 
   -o SHEET2       where the new sheet goes
   --tolerance T   as for slice (default 64)
@@ -76,7 +80,8 @@ pub const CHECK: &str = "\
 puzhenim check IN SHEET [--pad]
 
 Says whether the sheet is good for the layer, with its figures: inside samples,
-sticks, contours, kept and removed vertices.
+sticks, contours, kept vertices, how many of these are pinned if any are, and
+removed vertices.
 
   --pad   add an outside sample all round to a PBM
 ";
@@ -85,7 +90,8 @@ pub const DRAW: &str = "\
 puzhenim draw IN [SHEET] -o PICTURE [--pad]
 
 Draws the layer and the contours of the sheet, without one the traced contours,
-as SVG. Samples and vertices are marked unless the grid is too fine for it.
+as SVG. Samples and vertices are marked unless the grid is too fine for it,
+pinned vertices by a square.
 
   -o PICTURE   where the picture goes
   --pad        add an outside sample all round to a PBM

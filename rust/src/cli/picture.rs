@@ -12,21 +12,30 @@ use shapes::Shapes;
 /// The picture, under this name.
 pub fn draw(name: &str, layer: Layer, table: &[u16]) -> Result<String, Refusal> {
     let shapes = Shapes::of(layer, table)?;
-    let frame = Frame::of(layer);
+    let frame = Frame::of(layer, !shapes.pinned.is_empty());
     let counts = layer.counts(table)?;
     let figures = format!(
-        "{} × {} samples, {} inside; {}, {}; vertices: {} kept, {} removed",
+        "{} × {} samples, {} inside; {}, {}; vertices: {} kept{}, {} removed",
         layer.width,
         layer.height,
         counts.inside,
         counted(shapes.outlines, "outline"),
         counted(shapes.bores, "bore"),
         shapes.kept(),
+        of_these_pinned(shapes.pinned.len()),
         shapes.removed.len()
     );
     let legend = Legend::of(&frame, &shapes);
     let body = shapes.draw(layer, &frame)?;
     Ok(frame.page(name, &figures, &body, &legend))
+}
+
+/// How many of the kept vertices are pinned, if any are.
+fn of_these_pinned(count: usize) -> String {
+    match count {
+        0 => String::new(),
+        _ => format!(" ({} pinned)", count),
+    }
 }
 
 fn counted(count: usize, name: &str) -> String {

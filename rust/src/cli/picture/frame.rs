@@ -14,8 +14,9 @@ const VERTICES_FROM: f64 = 4.0;
 
 const MARGIN: f64 = 16.0;
 const HEAD: f64 = 66.0;
-/// What the line of figures needs.
+/// What the line of figures needs, and what the number of pinned vertices adds to it.
 const LEAST_WIDTH: f64 = 660.0;
+const PINNED_WIDTH: f64 = 120.0;
 
 const STYLE: &str = "\
 text{font-family:sans-serif;font-size:13px;fill:#333}
@@ -31,6 +32,9 @@ text{font-family:sans-serif;font-size:13px;fill:#333}
 .removed{stroke:#8a3fb0;stroke-opacity:.55}
 ";
 
+/// The style of the marks at pinned vertices, squares in place of round marks; it stands only in a picture of pinned vertices.
+const PINNED_STYLE: &str = ".pinned{stroke:#1d7a35;stroke-linecap:square}\n";
+
 pub struct Frame {
     columns: f64,
     rows: f64,
@@ -38,14 +42,16 @@ pub struct Frame {
     scale: f64,
     /// The factor by which texts are enlarged, so that they can be read when the whole picture is shown.
     unit: f64,
+    has_pinned: bool,
 }
 
 impl Frame {
-    pub fn of(layer: Layer) -> Frame {
+    /// The frame of a layer with or without pinned vertices.
+    pub fn of(layer: Layer, has_pinned: bool) -> Frame {
         let (columns, rows) = (f64::from(layer.width), f64::from(layer.height));
         let longer = columns.max(rows);
         let scale = (SIDE / longer).clamp(FINEST, COARSEST);
-        Frame { columns, rows, scale, unit: (longer * scale / SIDE).max(1.0) }
+        Frame { columns, rows, scale, unit: (longer * scale / SIDE).max(1.0), has_pinned }
     }
 
     pub fn marks_samples(&self) -> bool {
@@ -73,7 +79,8 @@ impl Frame {
 
     /// How wide the page is before the enlargement.
     pub fn width(&self) -> f64 {
-        (self.columns * self.scale / self.unit).max(LEAST_WIDTH) + 2.0 * MARGIN
+        let least = if self.has_pinned { LEAST_WIDTH + PINNED_WIDTH } else { LEAST_WIDTH };
+        (self.columns * self.scale / self.unit).max(least) + 2.0 * MARGIN
     }
 
     /// The whole picture. All lengths but the outermost are multiplied by the unit.
@@ -82,7 +89,7 @@ impl Frame {
         let (width, height) = (self.width(), HEAD + up + legend.height() + MARGIN);
         let (wide, high) = (round(width * self.unit), round(height * self.unit));
         format!(
-            "<svg xmlns=\"http://www.w3.org/2000/svg\" width=\"{}\" height=\"{}\" viewBox=\"0 0 {} {}\">\n<style>\n{}</style>\n\
+            "<svg xmlns=\"http://www.w3.org/2000/svg\" width=\"{}\" height=\"{}\" viewBox=\"0 0 {} {}\">\n<style>\n{}{}</style>\n\
              <rect width=\"100%\" height=\"100%\" fill=\"#fff\"/>\n\
              <text class=\"name\" x=\"{m}\" y=\"30\">{}</text>\n<text x=\"{m}\" y=\"51\">{}</text>\n\
              {}<g transform=\"translate({m} {})\">\n{}</g>\n</svg>\n",
@@ -91,6 +98,7 @@ impl Frame {
             round(width),
             round(height),
             STYLE,
+            if self.has_pinned { PINNED_STYLE } else { "" },
             escaped(name),
             figures,
             self.grid(across, up, shapes),

@@ -100,8 +100,12 @@ fn entries(frame: &Frame, shapes: &Shapes) -> Vec<Entry> {
         entries.push(dot("in", 4.0, "inside sample"));
         entries.push(dot("out", 4.0, "outside sample"));
     }
-    if frame.marks_vertices() && shapes.kept() > 0 {
+    // The mark at a pinned vertex covers that of a kept one.
+    if frame.marks_vertices() && shapes.kept() > shapes.pinned.len() {
         entries.push(dot("kept-outline", 7.0, "kept vertex"));
+    }
+    if frame.marks_vertices() && !shapes.pinned.is_empty() {
+        entries.push(dot("pinned", 8.0, "pinned vertex"));
     }
     if frame.marks_vertices() && !shapes.removed.is_empty() {
         entries.push(dot("removed", 5.0, "removed vertex"));

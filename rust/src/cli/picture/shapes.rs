@@ -1,4 +1,4 @@
-//! What is drawn inside the frame: contours from the planner's list, removed vertices from the table, samples.
+//! What is drawn inside the frame: contours from the planner's list, removed and pinned vertices from the table, samples.
 
 use super::frame::Frame;
 use puzhenim::{Kind, Layer, Refusal, Vertex};
@@ -9,6 +9,7 @@ pub struct Shapes {
     /// In the order of the list, so that what lies within another is drawn over it.
     contours: Vec<Contour>,
     pub removed: Vec<Point>,
+    pub pinned: Vec<Point>,
     pub outlines: usize,
     pub bores: usize,
 }
@@ -41,9 +42,12 @@ impl Shapes {
         let contours: Vec<Contour> = layer.list(table)?.contours().iter().zip(layer.kinds()?).map(Contour::of).collect();
         let outlines = contours.iter().filter(|contour| contour.kind == Kind::Outline).count();
         let bores = contours.len() - outlines;
-        Ok(Shapes { contours, removed: removed(layer, table), outlines, bores })
+        let removed = points(layer, table, |vertex| !vertex.is_kept());
+        let pinned = points(layer, table, Vertex::is_pinned);
+        Ok(Shapes { contours, removed, pinned, outlines, bores })
     }
 
+    /// How many vertices are kept, pinned or not.
     pub fn kept(&self) -> usize {
         self.contours.iter().map(|contour| contour.points.len()).sum()
     }
@@ -59,6 +63,7 @@ impl Shapes {
             svg += &dots("removed", frame.pen(frame.mark(3.6)), self.removed.iter().copied());
             svg += &dots("kept-outline", frame.pen(frame.mark(6.0)), self.kept_on(Kind::Outline));
             svg += &dots("kept-bore", frame.pen(frame.mark(6.0)), self.kept_on(Kind::Bore));
+            svg += &dots("pinned", frame.pen(frame.mark(8.0)), self.pinned.iter().copied());
         }
         Ok(svg)
     }
@@ -88,9 +93,10 @@ impl Shapes {
     }
 }
 
-fn removed(layer: Layer, table: &[u16]) -> Vec<Point> {
+/// Where the vertices lie that the test holds of.
+fn points(layer: Layer, table: &[u16], test: impl Fn(&Vertex) -> bool) -> Vec<Point> {
     let vertices = table.iter().enumerate().filter_map(|(number, entry)| match Vertex::of(*entry) {
-        Some(Vertex::Removed(offset)) => layer.edge(number).map(|edge| edge.point(offset)),
+        Some(vertex) if test(&vertex) => layer.edge(number).map(|edge| edge.point(vertex.offset())),
         _ => None,
     });
     vertices.map(|(x, y)| (i64::from(x), i64::from(y))).collect()
@@ -109,7 +115,7 @@ fn samples(layer: Layer) -> Result<(Vec<Point>, Vec<Point>), Refusal> {
     Ok((inside, outside))
 }
 
-/// A round mark at each point.
+/// A mark at each point, round unless its class has another style.
 fn dots(class: &str, width: f64, points: impl IntoIterator<Item = Point>) -> String {
     let mut path = String::new();
     for (x, y) in points {
