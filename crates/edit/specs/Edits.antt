@@ -1,4 +1,5 @@
--- One edit of a roll: questions 9 to 13, and 16, and the table after it. "An accepted edit writes the named stick's entry and no other."
+-- One edit of a roll: questions 9 to 13, and 16. "An accepted edit writes the named stick's entry and no other.": the table after it is in
+-- `table` Stores.
 use mathlib.Core.Bool.{Bool, cond, not, _&&_}
 use mathlib.Core.List.{List, [], _∷_}
 use Prim.Native.Nat.{ℕ}

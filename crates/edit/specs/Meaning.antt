@@ -1,5 +1,5 @@
 -- Edits said over points: what questions 11 and 12 ask of a redrawn edge, and when an edit is accepted. The tests and the answer yes of
--- Edits.antt, which compute, are this (proofs/Meaning.antt).
+-- Edits.antt, which compute, are this (proofs/Meaning.antt). A pin is accepted by question 9 alone, which speaks of no points.
 use mathlib.Core.Path.{_≡_}
 use mathlib.Core.Bool.{true}
 use mathlib.Core.List.{List}

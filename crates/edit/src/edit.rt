@@ -100,8 +100,7 @@ fn ask_removal(
     requires { ⌜ NamedKept (layerOf size (now bitmap)) (now table) stick ⌝ }
     ensures { λ r. ⌜ r ≡ removalAnswer (layerOf size (now (bitmap .entry))) t (now (table .entry)) place stick ⌝ }
 {
-    let pinned = carries_pin(size, table, stick);
-    if pinned {
+    if carries_pin(size, table, stick) {
         return Answer::No(Refusal::VertexPinned, place);
     }
     let e = edge_named(stick);

@@ -22,24 +22,24 @@ use Rattle.grid.specs.declared.question.Answer.the-variants.{Yes, No}
 pub no-not-yes : (q : Refusal) (p : ℕ) → No q p ≡ Yes → ⊥
 no-not-yes q p e = let z : _≡_ {A = ℕ} 0 1 = cc in omega arith
 
--- the number of a refusal is not 0, which stands for done
-pub number-some : (q : Refusal) → 1 ≤ numberOf q
-number-some Refusal.BadSides = omega arith
-number-some Refusal.BitmapLength = omega arith
-number-some Refusal.SpareBits = omega arith
-number-some Refusal.BorderInside = omega arith
-number-some Refusal.TableLength = omega arith
-number-some Refusal.WrongEntry = omega arith
-number-some Refusal.NotHeld = omega arith
-number-some Refusal.Malformed = omega arith
-number-some Refusal.NoKeptVertex = omega arith
-number-some Refusal.BadOffset = omega arith
-number-some Refusal.NoCrossing = omega arith
-number-some Refusal.BeyondTolerance = omega arith
-number-some Refusal.TooFewKept = omega arith
-number-some Refusal.ShortOutput = omega arith
-number-some Refusal.SomeRemoved = omega arith
-number-some Refusal.VertexPinned = omega arith
+-- the number of a refusal is not 0, which stands for done, and is a small one
+pub number-within : (q : Refusal) → (1 ≤ numberOf q) × (numberOf q ≤ 16)
+number-within Refusal.BadSides = (omega arith, omega arith)
+number-within Refusal.BitmapLength = (omega arith, omega arith)
+number-within Refusal.SpareBits = (omega arith, omega arith)
+number-within Refusal.BorderInside = (omega arith, omega arith)
+number-within Refusal.TableLength = (omega arith, omega arith)
+number-within Refusal.WrongEntry = (omega arith, omega arith)
+number-within Refusal.NotHeld = (omega arith, omega arith)
+number-within Refusal.Malformed = (omega arith, omega arith)
+number-within Refusal.NoKeptVertex = (omega arith, omega arith)
+number-within Refusal.BadOffset = (omega arith, omega arith)
+number-within Refusal.NoCrossing = (omega arith, omega arith)
+number-within Refusal.BeyondTolerance = (omega arith, omega arith)
+number-within Refusal.TooFewKept = (omega arith, omega arith)
+number-within Refusal.ShortOutput = (omega arith, omega arith)
+number-within Refusal.SomeRemoved = (omega arith, omega arith)
+number-within Refusal.VertexPinned = (omega arith, omega arith)
 
 -- the lowest number that fails is the place of the no
 pub each-no : (q : Refusal) (f : ℕ → Bool) (n k : ℕ) → k < n → f k ≡ true → ((j : ℕ) → j < k → f j ≡ false) → No q k ≡ askEach q f n

@@ -13,7 +13,8 @@ use Rattle.grid.specs.declared.question.Refusal.the-variants as Refusal
 use Rattle.grid.specs.declared.question.Answer.{Answer}
 use Rattle.grid.specs.declared.question.Answer.the-variants.{Yes, No}
 
--- the numbers of the list 'Questions put to a call', and "16, a slide or removal of a pinned vertex" (Note 5)
+-- the numbers of the list 'Questions put to a call', and "16, a slide or removal of a pinned vertex, after question 9
+-- and before 10" (Note 5)
 abbrev pub numberOf : Refusal → ℕ
 numberOf Refusal.BadSides = 1
 numberOf Refusal.BitmapLength = 2

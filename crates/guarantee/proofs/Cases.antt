@@ -17,7 +17,7 @@ use Rattle.chord.specs.Crossing.{off, parted, crosses, slidesWithin}
 use Rattle.chord.proofs.Crossings.{crosses→Crosses}
 use Rattle.table.specs.Entries.{entryOf, entriesAnswer, tableLengthAnswer}
 use Rattle.table.specs.Kept.{allKeptAnswer}
-use Rattle.table.specs.Vertices.{keptAt, removedAt, offsetAt}
+use Rattle.table.specs.Vertices.{keptAt, removedAt, pinnedAt, offsetAt}
 use Rattle.drawn.specs.Neighbours.{removedFrom, keptFrom}
 use Rattle.drawn.specs.Drawn.{edgeCrosses}
 use Rattle.held.specs.Held.{heldContour, heldAnswer}
@@ -47,14 +47,14 @@ blank-settled : (limit : ℕ) → smoothOf blank limit (offsets 0 0 0 0)
     ≡ record { refusal = 0; place = 0; passes = 0; total = 0; settled = true; table = offsets 0 0 0 0 }
 unfolding countsOf traceOf tabulateFrom smoothOf simplifyOf rollOf sidesAnswer lengthAnswer spareAnswer borderAnswer tableLengthAnswer entriesAnswer allKeptAnswer heldAnswer
     heldContour edgeCrosses edgeWithin firstsAmong ahead number edgeCount edgeAt isStick sample bit next prev xor leastFrom count keptAt
-    removedAt offsetAt removedFrom keptFrom entryOf off parted crosses slidesWithin passes
+    removedAt pinnedAt offsetAt removedFrom keptFrom entryOf off parted crosses slidesWithin passes
 blank-settled zero = refl
 blank-settled (suc n) = refl
 
 pub cases : Cases
 unfolding countsOf traceOf tabulateFrom smoothOf simplifyOf rollOf sidesAnswer lengthAnswer spareAnswer borderAnswer tableLengthAnswer entriesAnswer allKeptAnswer heldAnswer
     heldContour edgeCrosses edgeWithin firstsAmong ahead number edgeCount edgeAt isStick sample bit next prev xor leastFrom count keptAt
-    removedAt offsetAt removedFrom keptFrom entryOf off parted crosses slidesWithin passes
+    removedAt pinnedAt offsetAt removedFrom keptFrom entryOf off parted crosses slidesWithin passes
 cases =
     record {
       single-contour = refl;

@@ -67,7 +67,7 @@ abbrev pub Guarantee : Type 0
 Guarantee = (L : Layer) (t : List ℕ) (opening : Opening) → OpeningAccepted L t opening → (calls : List Call)
     → Faithful L (afterAll L (opened L t opening) calls)
 
--- Beside it, Note 5: a pinned vertex' "offset is the same after any sequence that doesn't trace or read a sheet". Trace and reading a sheet set
+-- Beside it, Note 5: a pinned vertex's "offset is the same after any sequence that doesn't trace or read a sheet". Trace and reading a sheet set
 -- pins anew.
 abbrev pub setsPins : Call → Bool
 setsPins trace = true

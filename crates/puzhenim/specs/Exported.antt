@@ -1,11 +1,14 @@
 -- Demand 3 over the exported functions, as a C caller makes the calls: with figures of any length, where fewer than four refuse a call before its
--- first question. proofs/Exported.antt proves it.
+-- first question; and so that pins hold. proofs/Exported.antt proves both.
 use mathlib.Core.Path.{_≡_}
+use mathlib.Core.Bool.{true, not}
 use mathlib.Core.List.{List, foldl}
 use Prim.Native.Nat.{ℕ}
+use Rattle.arith.specs.Lists.{each}
 use Rattle.grid.specs.Layer.{Layer}
+use Rattle.table.specs.Pins.{PinsStay}
 use Rattle.faithful.specs.Faithful.{Faithful}
-use Rattle.guarantee.specs.Calls.{Call, trace, read, smooth, simplify, roll, Opening, byTrace, bySheet}
+use Rattle.guarantee.specs.Calls.{Call, trace, read, smooth, simplify, roll, Opening, byTrace, bySheet, setsPins}
 use Rattle.puzhenim.specs.Face.{Face, traceFace, readFace, smoothFace, simplifyFace, rollFace}
 
 -- what the exported function of a call returns and leaves, by the definition that its promise names; its buffer is the table
@@ -33,3 +36,8 @@ opens (bySheet sheet) = read sheet
 abbrev pub ExportedGuarantee : Type 0
 ExportedGuarantee = (L : Layer) (t : List ℕ) (opening : Opening) (figures : List ℕ) → faceOf L t (opens opening) figures .number ≡ 0
     → (calls : List Made) → Faithful L (foldl (tableAfter L) (faceOf L t (opens opening) figures .buffers) calls)
+
+-- on whatever layer and table, an entry that is pinned is the same after every list of calls that neither traces nor reads a sheet (Note 5)
+abbrev pub ExportedPins : Type 0
+ExportedPins = (L : Layer) (t : List ℕ) (calls : List Made) → each (λ made. not (setsPins (made .call))) calls ≡ true
+    → PinsStay t (foldl (tableAfter L) t calls)

@@ -10,7 +10,7 @@ use Rattle.grid.specs.Layer.{Layer}
 use Rattle.grid.specs.Questions.{firstNo}
 use Rattle.grid.specs.declared.question.Answer.{Answer}
 use Rattle.grid.specs.declared.question.Answer.the-variants.{Yes, No}
-use Rattle.grid.proofs.Answers.{number-some, append-all}
+use Rattle.grid.proofs.Answers.{number-within, append-all}
 use Rattle.held.specs.Questions.{heldQuestions}
 use Rattle.held.proofs.Asking.{accepted-of, accepted-yes}
 use Rattle.sheet.specs.Written.{sheetOf, roomAnswer, Outcome, writeOf}
@@ -28,7 +28,7 @@ write-passes L t out done = go (firstNo (heldQuestions L t ++ (roomAnswer L t ou
     go : (answer : Answer) → firstNo (heldQuestions L t ++ (roomAnswer L t out ∷ [])) ≡ answer
         → firstNo (heldQuestions L t ++ (roomAnswer L t out ∷ [])) ≡ Yes
     go Yes e = e
-    go (No q place) e = absurd (omega (arith, number-some q, done, ap (λ (o : Outcome). o .refusal) (written-by L t out (No q place) e)))
+    go (No q place) e = absurd (omega (arith, number-within q, done, ap (λ (o : Outcome). o .refusal) (written-by L t out (No q place) e)))
 
 pub round-trips : RoundTrips
 round-trips =

@@ -9,7 +9,7 @@ use Rattle.grid.specs.Layer.{Layer}
 use Rattle.grid.specs.Questions.{firstNo, Sound}
 use Rattle.grid.specs.declared.question.Answer.{Answer}
 use Rattle.grid.specs.declared.question.Answer.the-variants.{Yes, No}
-use Rattle.grid.proofs.Answers.{number-some, append-all, firstNo-yes}
+use Rattle.grid.proofs.Answers.{number-within, append-all, firstNo-yes}
 use Rattle.table.specs.Entries.{lengthQuestions}
 use Rattle.table.proofs.Lengths.{lengths-of}
 use Rattle.held.specs.Held.{heldAnswer}
@@ -53,7 +53,7 @@ module _ (L : Layer) (t s : List ℕ) where
             held = seven .0;
             left = ap (λ (o : Outcome). o .table) (answer-is Yes e);
           }
-      go (No q place) e = absurd (omega (arith, number-some q, done, ap (λ (o : Outcome). o .refusal) (answer-is (No q place) e)))
+      go (No q place) e = absurd (omega (arith, number-within q, done, ap (λ (o : Outcome). o .refusal) (answer-is (No q place) e)))
 
   -- A sheet of bytes that is read leaves an accepted layer.
   pub read-opens : ((k : ℕ) → getD s k 0 < 256) → readOf L t s .refusal ≡ 0 → Accepted L (readOf L t s .table)

@@ -1,13 +1,13 @@
 -- The vertices of one contour: where each is expected, one after the other, and that the described table says of its stick what its command
 -- says.
 use mathlib.Core.Path.{_≡_, refl, sym, _∙_, ap}
-use mathlib.Core.Logic.{inl, inr}
-use mathlib.Core.Bool.{Bool, true, false, cond, not, _&&_, _||_}
-use mathlib.Core.List.{List, _∷_}
+use mathlib.Core.Logic.{_⊎_, inl, inr}
+use mathlib.Core.Bool.{Bool, true, false, cond, not, _&&_}
+use mathlib.Core.List.{List, [], _∷_}
 use Prim.Native.Nat.{ℕ, suc, _+_, _*_, _≤_, _<_}
 use native.Mathlib.Nat.{eq-or-lt-of-le}
 use native.Mathlib.Omega.{arith}
-use borrow.Author.Tests.{eqb-true, ne-eqb, ltb-true}
+use borrow.Author.Tests.{eqb-true, ltb-true}
 use lib.Dec.{eqb, ltb}
 use lib.ListN.{length, getD}
 use Rattle.arith.specs.Booleans.{asNumber}
@@ -29,14 +29,15 @@ use Rattle.chord.specs.Runs.{NearEdge}
 use Rattle.table.specs.Entries.{entryOf, encoded, suits, wrong, wrongAt, entriesAnswer}
 use Rattle.table.specs.Vertices.{isKept, isRemoved, offsetIn, keptAt, removedAt, offsetAt}
 use Rattle.table.specs.declared.entry.Entry.{Entry}
-use Rattle.table.specs.declared.entry.Entry.the-variants.{Nothing, Kept, Removed}
+use Rattle.table.specs.declared.entry.Entry.the-variants.{Nothing, Kept, Removed, Pinned}
 use Rattle.table.proofs.Entries.{Inside, entry-encoded, entry-nothing}
 use Rattle.drawn.proofs.Runs.{in-grid-near}
-use Rattle.formed.specs.Expected.{expectedSheet, sheetAnswer}
+use Rattle.sheet.specs.Commands.{vertexCommand}
+use Rattle.formed.specs.Expected.{vertexLetter, expectedSheet, sheetAnswer}
 use Rattle.formed.specs.Asked.{widths, ContoursExpected}
 use Rattle.formed.proofs.Commands.{expected-at, expected-once, stands-here}
 use Rattle.formed.proofs.Contours.{contour-within, vertex-split}
-use Rattle.reading.specs.Reading.{described}
+use Rattle.reading.specs.Reading.{entryBy, described}
 use Rattle.reading.specs.Places.{VertexExpected, VerticesStand}
 use Rattle.reading.specs.declared.holding.Vertex.{Vertex}
 use Rattle.reading.proofs.Described.{described-here, described-off}
@@ -44,28 +45,35 @@ use Rattle.reading.proofs.Described.{described-here, described-off}
 -- One vertex command: letter a, offset o
 
 pub record Says (a o : ℕ) (x : Entry) : Type 0 where
-  pub is-kept : isKept x ≡ eqb a 0x4B
+  pub is-kept : isKept x ≡ not (eqb a 0x52)
   pub is-removed : isRemoved x ≡ eqb a 0x52
   pub offset : offsetIn x ≡ o
   pub right : suits true x ≡ true
+  -- written again it is the same command
+  pub bytes : vertexCommand x ≡ a ∷ o ∷ []
 
-or-first : (a b : Bool) → (a || b) ≡ true → b ≡ false → a ≡ true
-or-first true b e f = refl
-or-first false b e f = absurd (omega (arith, ap asNumber (sym f ∙ e)))
+-- the letter is one of three
+letters : (a : ℕ) → vertexLetter a ≡ true → (a ≡ 0x4B) ⊎ (a ≡ 0x52) ⊎ (a ≡ 0x4E)
+letters a h = both-sides (eqb a 0x4B)
+    (λ k. inl (eqb-true a 0x4B k))
+    (λ k. both-sides (eqb a 0x52)
+    (λ r. inr (inl (eqb-true a 0x52 r)))
+    (λ r. inr (inr (eqb-true a 0x4E (rw (k, r) at h)))))
 
-pub vertex-says : (a o : ℕ) → ((eqb a 0x4B || eqb a 0x52) && ltb 0 o) ≡ true → o < 256
-    → Says a o (entryOf (encoded (cond (eqb a 0x52) (Removed o) (Kept o))))
+-- a number stored is the entry again
+stored-says : {a o : ℕ} {x : Entry} → Inside (offsetIn x) → Says a o x → Says a o (entryOf (encoded x))
+stored-says {a} {o} {x} inside says = rw (entry-encoded x inside) says
+
+pub vertex-says : (a o : ℕ) → (vertexLetter a && ltb 0 o) ≡ true → o < 256 → Says a o (entryOf (encoded (entryBy a o)))
 vertex-says a o h small =
-    let both = and-split (eqb a 0x4B || eqb a 0x52) (ltb 0 o) h in
+    let both = and-split (vertexLetter a) (ltb 0 o) h in
     let some : 0 < o = ltb-true 0 o (both .1) in
     let inside : Inside o = record { low = omega arith; high = omega arith } in
-    both-sides (eqb a 0x52)
-    (λ t.
-    let other : eqb a 0x4B ≡ false = ne-eqb a 0x4B (λ e. omega (arith, eqb-true a 0x52 t)) in
-    rw (t, entry-encoded (Removed o) inside) (record { is-kept = sym other; is-removed = sym t; offset = refl; right = refl }))
-    (λ f.
-    let this : eqb a 0x4B ≡ true = or-first (eqb a 0x4B) (eqb a 0x52) (both .0) f in
-    rw (f, entry-encoded (Kept o) inside) (record { is-kept = sym this; is-removed = sym f; offset = refl; right = refl }))
+    elim (letters a (both .0)) [
+      | inl k ↦ rw k (stored-says {x = Kept o} inside (record { is-kept = refl; is-removed = refl; offset = refl; right = refl; bytes = refl }))
+      | inr (inl r) ↦ rw r (stored-says {x = Removed o} inside (record { is-kept = refl; is-removed = refl; offset = refl; right = refl; bytes = refl }))
+      | inr (inr n) ↦ rw n (stored-says {x = Pinned o} inside (record { is-kept = refl; is-removed = refl; offset = refl; right = refl; bytes = refl }))
+    ]
 
 -- Along a contour
 
@@ -134,7 +142,7 @@ module _ {L : Layer} {s : List ℕ} {first v : Vertex} (stand : VerticesStand L 
     here-says =
         rw (stand .entry v x) (vertex-says (getD s (v .place) 0) (getD s (v .place + 1) 0) (stand .whole v x) (bytes (v .place + 1)))
 
-    pub kept-is : keptAt L (described L s) (v .stick) ≡ eqb (getD s (v .place) 0) 0x4B
+    pub kept-is : keptAt L (described L s) (v .stick) ≡ not (eqb (getD s (v .place) 0) 0x52)
     unfolding keptAt
     kept-is = here-says .is-kept
 

@@ -1,7 +1,7 @@
 -- Writing and reading undo each other: the sheet of a table is well formed and describes that table, and an accepted sheet is the sheet of the
 -- table that it describes, byte for byte.
 use mathlib.Core.Path.{_≡_, refl, sym, _∙_, ap}
-use mathlib.Core.Bool.{true, false, false≢true, cond, _&&_, _||_}
+use mathlib.Core.Bool.{true, false, false≢true, _&&_}
 use mathlib.Core.List.{List, [], _∷_, _++_, map, flatten, append-assoc}
 use Prim.Native.Nat.{ℕ, suc, _+_, _≤_, _<_}
 use native.Mathlib.Omega.{arith}
@@ -27,7 +27,7 @@ use Rattle.contour.proofs.Theorems.{AllSticks, head-stick, tail-sticks}
 use Rattle.table.specs.Entries.{entryOf, encoded, suits, wrong, wrongAt, entriesAnswer, lengthQuestions}
 use Rattle.table.specs.Vertices.{offsetIn, entryAt}
 use Rattle.table.specs.declared.entry.Entry.{Entry}
-use Rattle.table.specs.declared.entry.Entry.the-variants.{Nothing, Kept, Removed, Wrong}
+use Rattle.table.specs.declared.entry.Entry.the-variants.{Nothing, Kept, Removed, Pinned, Wrong}
 use Rattle.table.proofs.Entries.{encoded-entry, offset-inside, suits-other}
 use Rattle.table.proofs.Suits.{entry-suits}
 use Rattle.held.specs.Held.{heldAnswer}
@@ -35,21 +35,21 @@ use Rattle.held.specs.Questions.{heldQuestions}
 use Rattle.held.proofs.Asking.{accepted-of}
 use Rattle.sheet.specs.Commands.{vertexCommand, sizeCommand, contourCommand, endCommand}
 use Rattle.sheet.specs.Written.{verticesOf, contoursBytes, sheetOf}
-use Rattle.formed.specs.Expected.{Expected, these, vertexOf, standsAt, vertexAt, expectedContour, expectedSheet, commandsFrom, sheetAnswer}
+use Rattle.formed.specs.Expected.{Expected, these, vertexOf, standsAt, vertexLetter, vertexAt, expectedContour, expectedSheet, commandsFrom, sheetAnswer}
 use Rattle.formed.specs.Asked.{widths}
 use Rattle.formed.proofs.Commands.{widths-append, command-yes, commands-length, sticksIn, sticks-append, expected-at, expected-once, expected-stick}
-use Rattle.reading.specs.Reading.{entryFrom, described, readOf}
+use Rattle.reading.specs.Reading.{entryBy, entryFrom, described, readOf}
 use Rattle.reading.specs.Places.{answeredBy}
 use Rattle.reading.proofs.Described.{described-length, described-here, described-off}
-use Rattle.reading.proofs.Vertices.{Says, vertex-says}
+use Rattle.reading.proofs.Vertices.{vertex-says}
 use Rattle.reading.proofs.Theorems.{read-passes}
 
 -- The bytes of an entry's vertex command, and the entry that they give back
 
 record Command (n letter offset : ℕ) : Type 0 where
   bytes : vertexCommand (entryOf n) ≡ letter ∷ offset ∷ []
-  whole : ((eqb letter 0x4B || eqb letter 0x52) && ltb 0 offset) ≡ true
-  entry : encoded (cond (eqb letter 0x52) (Removed offset) (Kept offset)) ≡ n
+  whole : (vertexLetter letter && ltb 0 offset) ≡ true
+  entry : encoded (entryBy letter offset) ≡ n
 
 command-of : (n : ℕ) → suits true (entryOf n) ≡ true → (letter : ℕ) × (offset : ℕ) × Command n letter offset
 command-of n h = go (entryOf n) refl
@@ -64,6 +64,7 @@ command-of n h = go (entryOf n) refl
     go Nothing e = absurd (false≢true (sym (ap (suits true) e) ∙ h))
     go (Kept o) e = (0x4B, o, record { bytes = ap vertexCommand e; whole = lt-ltb 0 o (inside (Kept o) e); entry = back (Kept o) e })
     go (Removed o) e = (0x52, o, record { bytes = ap vertexCommand e; whole = lt-ltb 0 o (inside (Removed o) e); entry = back (Removed o) e })
+    go (Pinned o) e = (0x4E, o, record { bytes = ap vertexCommand e; whole = lt-ltb 0 o (inside (Pinned o) e); entry = back (Pinned o) e })
     go Wrong e = absurd (false≢true (sym (ap (suits true) e) ∙ h))
 
 zero-off : (n : ℕ) → wrong false n ≡ false → n ≡ encoded Nothing
@@ -233,13 +234,6 @@ read-written L t u asked same =
 
 -- An accepted sheet is written again byte for byte
 
--- the command of an entry, from what a vertex command says of it
-command-back : (a o : ℕ) (x : Entry) → Says a o x → vertexCommand x ≡ a ∷ o ∷ []
-command-back a o Nothing says = absurd (false≢true (says .right))
-command-back a o (Kept offset) says = λ i. sym (eqb-true a 0x4B (sym (says .is-kept))) i ∷ says .offset i ∷ []
-command-back a o (Removed offset) says = λ i. sym (eqb-true a 0x52 (sym (says .is-removed))) i ∷ says .offset i ∷ []
-command-back a o Wrong says = absurd (false≢true (says .right))
-
 module _ (s : List ℕ) where
   -- what is left of the sheet at i begins with the byte there
   drop-at : (i d : ℕ) → i < length s → drop i s ≡ getD s i d ∷ drop (i + 1) s
@@ -276,7 +270,7 @@ module _ (s : List ℕ) where
         let z : i + 1 + 1 ≡ i + 2 = omega arith in
         let here : vertexCommand (entryAt L (described L s) e) ≡ getD s i 0 ∷ getD s (i + 1) 0 ∷ [] =
         ap (λ (n : ℕ). vertexCommand (entryOf n)) (described-here L s sound e pre xs joined ∙ ap (λ (k : ℕ). encoded (entryFrom s k)) at)
-        ∙ command-back (getD s i 0) (getD s (i + 1) 0) _ (vertex-says (getD s i 0) (getD s (i + 1) 0) (c .0) (bytes (i + 1))) in
+        ∙ vertex-says (getD s i 0) (getD s (i + 1) 0) (c .0) (bytes (i + 1)) .bytes in
         let left : drop i s ≡ getD s i 0 ∷ getD s (i + 1) 0 ∷ drop (i + 2) s =
         drop-at i 0 (omega arith)
         ∙ ap (λ (l : List ℕ). getD s i 0 ∷ l) (drop-at (i + 1) 0 (omega arith) ∙ ap (λ (n : ℕ). getD s (i + 1) 0 ∷ drop n s) z) in

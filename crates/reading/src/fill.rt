@@ -40,11 +40,12 @@ pub fn entry_from(sheet: &[u8], i: usize) -> Entry
     requires { ⌜ i + 2 ≤ length (now sheet) ⌝ }
     ensures { λ r. ⌜ r ≡ entryFrom (now (sheet .entry)) i ⌝ }
 {
+    let letter = sheet[i];
     let offset = sheet[i + 1];
-    if sheet[i] == b'R' {
-        Entry::Removed(offset)
-    } else {
-        Entry::Kept(offset)
+    match letter {
+        b'R' => Entry::Removed(offset),
+        b'N' => Entry::Pinned(offset),
+        _ => Entry::Kept(offset),
     }
 }
 

@@ -122,7 +122,7 @@ fn held_contour(size: Size, bitmap: &[u8], sheet: &[u8], first: Vertex) -> Check
     let mut kept: usize = 0;
     loop {
         let place = v.place;
-        if sheet[place] == b'K' {
+        if sheet[place] != b'R' {
             if !held_edge(size, bitmap, sheet, first, v) {
                 return Checked {
                     held: false,

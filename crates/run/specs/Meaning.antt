@@ -1,4 +1,4 @@
--- When a run passes, said over points as the paper says it. `passes` of Runs.antt, which computes, is this (proofs/Meaning.antt).
+-- When a run passes, said over points as the paper and Note 5 say it. `passes` of Runs.antt, which computes, is this (proofs/Meaning.antt).
 use mathlib.Core.Path.{_≡_}
 use mathlib.Core.Bool.{false}
 use mathlib.Core.List.{List}

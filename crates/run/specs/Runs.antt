@@ -32,7 +32,7 @@ abbrev pub chordPasses : Layer → List ℕ → ℕ → Position → Position �
 chordPasses L t tolerance p q u = crosses p q u && slidesWithin tolerance p q u (offsetAt L t u) && not (pinnedAt L t u)
 
 -- "A run passes if it is a single edge, or if its chord crosses each stick between and each vertex there would slide at most T": a single
--- edge has no stick between. Over points this is `RunPasses` (Meaning.antt).
+-- edge has no stick between. And no vertex between is pinned (Note 5). Over points this is `RunPasses` (Meaning.antt).
 unfoldable pub passes : Layer → List ℕ → ℕ → Edge → ℕ → Bool
 passes L t tolerance e n = each (chordPasses L t tolerance (vertex L t e) (vertex L t (stickAfter L n e))) (between L e n)
 

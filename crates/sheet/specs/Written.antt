@@ -16,7 +16,8 @@ use Rattle.sheet.specs.declared.write.Written.{Written}
 use Rattle.sheet.specs.declared.write.Written.the-variants.{Done, Refused}
 use Rattle.sheet.specs.Commands.{sizeCommand, contourCommand, vertexCommand, endCommand}
 
--- "for each contour C (hex 43) and its first stick; for each vertex K (hex 4B, kept) or R (hex 52, removed) and its offset byte"
+-- "for each contour C (hex 43) and its first stick; for each vertex K (hex 4B, kept) or R (hex 52, removed) and its offset byte", or "N (hex 4E)
+-- and the offset for a pinned one" (Note 5)
 unfoldable pub verticesOf : Layer → List ℕ → List Edge → List ℕ
 unfolding flatten
 verticesOf L t sticks = flatten (map (λ e. vertexCommand (entryAt L t e)) sticks)

@@ -6,7 +6,7 @@ ghost use Rattle.sheet.specs.Commands.{kindOf};
 pub const SIZE_BYTES: usize = 5;
 // C and a stick.
 pub const CONTOUR_BYTES: usize = 6;
-// K or R, and an offset.
+// K, R or N, and an offset.
 pub const VERTEX_BYTES: usize = 2;
 
 pub fn kind_of(vertical: bool) -> u8

@@ -1,6 +1,6 @@
 -- Simplify leaves every pinned entry as it is, on every layer and table: what is removed of a run that passes is not pinned (`run` Pins), so a run
 -- that is tried leaves the pins, a contour's two runs do, and one contour after the other.
-use mathlib.Core.Path.{_≡_, refl, sym, subst, _∙_}
+use mathlib.Core.Path.{_≡_, refl, _∙_}
 use mathlib.Core.List.{List, [], _∷_, foldl}
 use Prim.Native.Nat.{ℕ, zero, suc, _-_}
 use lib.ListN.{length}
@@ -18,7 +18,7 @@ use Rattle.run.specs.Runs.{stickAfter, passes}
 use Rattle.run.proofs.Pins.{inner-pins}
 use Rattle.simplify.specs.Runs.{Progress, half, oneTried, tryRun, simplifyContour}
 use Rattle.simplify.specs.Parts.{begun}
-use Rattle.simplify.specs.Call.{Outcome, simplifyOf}
+use Rattle.simplify.specs.Call.{simplifyOf}
 use Rattle.simplify.proofs.Trying.{inner-is, try-passes, try-splits, try-none, contour-runs}
 use Rattle.simplify.proofs.Layers.{simplify-is}
 use Rattle.simplify.proofs.Outcomes.{outcome-is}

@@ -16,7 +16,7 @@ use Rattle.grid.specs.Questions.{firstNo}
 use Rattle.grid.specs.declared.question.Refusal.the-variants as Refusal
 use Rattle.grid.specs.declared.question.Answer.{Answer}
 use Rattle.grid.specs.declared.question.Answer.the-variants.{Yes, No}
-use Rattle.grid.proofs.Answers.{number-some, append-yes}
+use Rattle.grid.proofs.Answers.{number-within, append-yes}
 use Rattle.table.specs.Entries.{lengthQuestions}
 use Rattle.table.specs.Kept.{allKeptAnswer}
 use Rattle.table.proofs.AllKept.{passes-all-kept}
@@ -43,7 +43,7 @@ module _ (L : Layer) (t : List ℕ) (done : traceOf L t .refusal ≡ 0) where
     where
       by : (a : Answer) → firstNo (lengthQuestions L (length t)) ≡ a → traceOf L t .refusal ≡ 0 → firstNo (lengthQuestions L (length t)) ≡ Yes
       by Yes e done = e
-      by (No q place) e done = absurd (omega (arith, number-some q, rw e at done))
+      by (No q place) e done = absurd (omega (arith, number-within q, rw e at done))
 
   -- so 1 to 7 are answered yes for each accepted table
   held-yes : (u : List ℕ) → Accepted L u → firstNo (heldQuestions L u) ≡ Yes

@@ -14,7 +14,7 @@ use Rattle.grid.specs.Layer.{Layer, layerOf, sizeOf}
 use Rattle.grid.specs.Questions.{numberOf, firstNo}
 use Rattle.grid.specs.declared.question.Refusal.{Refusal}
 use Rattle.grid.specs.declared.question.Answer.the-variants.{Yes}
-use Rattle.grid.proofs.Answers.{number-some}
+use Rattle.grid.proofs.Answers.{number-within}
 use Rattle.held.specs.Questions.{heldQuestions}
 use Rattle.trace.specs.Trace as Trace
 use Rattle.trace.specs.declared.tracing.Traced.{Traced}
@@ -62,7 +62,7 @@ module _ (L : Layer) (t : List ℕ) (r : Traced) (o : Trace.Outcome) (asked : Tr
   pub bytes-refused : (q : Refusal) (place : ℕ) → r ≡ Traced.Refused q place → refusedBytes (numberOf q) ≡ bytesAfter L o
   unfolding bytesAfter
   bytes-refused q place e =
-      let some : eqb (numberOf q) 0 ≡ false = ne-eqb (numberOf q) 0 (λ z. omega (arith, number-some q)) in
+      let some : eqb (numberOf q) 0 ≡ false = ne-eqb (numberOf q) 0 (λ z. omega (arith, number-within q)) in
       sym (ap (λ (b : Bool). cond b (sheetOf L (refined L t)) (refusedBytes (numberOf q))) some)
       ∙ ap (bytesAfter L) (sym (ap (λ (x : Traced). Trace.outcome x t) e) ∙ asked)
 
@@ -91,7 +91,7 @@ module _ (L : Layer) (t out out′ : List ℕ) (r : Written) (yes-7 : firstNo (h
   written-never q place e =
       let none : numberOf q ≡ 0 =
       ap (λ (o : Sheet.Outcome). o .refusal) (sym (ap (λ (x : Written). Sheet.outcome x out′) e) ∙ asked ∙ written-done L t out yes-7 room) in
-      omega (arith, number-some q, none)
+      omega (arith, number-within q, none)
 
 -- The command and the sides
 

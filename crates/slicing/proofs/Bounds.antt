@@ -1,5 +1,5 @@
--- How long an answer is: the number of a refusal is a byte, and a layer with sides of at most 64 has at most 8,064 grid edges. So a sheet, with
--- 6 + 6 × contours + 2 × vertices bytes, has at most 28,230 of them, since each contour has four vertices or more.
+-- How long an answer is: a layer with sides of at most 64 has at most 8,064 grid edges. So a sheet, with 6 + 6 × contours + 2 × vertices bytes,
+-- has at most 28,230 of them, since each contour has four vertices or more.
 use mathlib.Core.Path.{_≡_}
 use mathlib.Core.Bool.{true}
 use mathlib.Core.List.{List, [], _∷_, map, flatten}
@@ -7,17 +7,15 @@ use Prim.Native.Nat.{ℕ, _-_, _*_, _≤_}
 use native.Mathlib.Nat.{mul-le-mul}
 use native.Mathlib.Omega.{arith}
 use borrow.Author.Tests.{leb-true}
-use lib.Dec.{leb, lit≤}
+use lib.Dec.{leb}
 use lib.ListN.{length, length-append}
 use Rattle.arith.proofs.Booleans.{and-split}
 use Rattle.arith.proofs.Ranges.{count-le}
 use Rattle.grid.specs.Layer.{Layer}
 use Rattle.grid.specs.Edges.{edgeCount, stickAt}
-use Rattle.grid.specs.Questions.{numberOf, Sized, Sound}
+use Rattle.grid.specs.Questions.{Sized, Sound}
 use Rattle.grid.specs.declared.layer.Size.{Size}
 use Rattle.grid.specs.declared.edge.Edge.{Edge}
-use Rattle.grid.specs.declared.question.Refusal.{Refusal}
-use Rattle.grid.specs.declared.question.Refusal.the-variants as Refusal
 use Rattle.grid.specs.declared.question.Answer.the-variants.{Yes}
 use Rattle.contour.specs.Walk.{contour}
 use Rattle.contour.specs.Contours.{walkOf, contourOf, firstSticks}
@@ -27,23 +25,6 @@ use Rattle.drawn.proofs.FourKept.{four-sticks}
 use Rattle.sheet.specs.Written.{sheetOf}
 use Rattle.sheet.proofs.Counted.{sheet-length}
 use Rattle.slicing.specs.Slice.{sideLimit, sideFits, sidesFit, tableLimit, answerLimit}
-
-pub number-small : (q : Refusal) → numberOf q ≤ 15
-number-small Refusal.BadSides = lit≤ tt
-number-small Refusal.BitmapLength = lit≤ tt
-number-small Refusal.SpareBits = lit≤ tt
-number-small Refusal.BorderInside = lit≤ tt
-number-small Refusal.TableLength = lit≤ tt
-number-small Refusal.WrongEntry = lit≤ tt
-number-small Refusal.NotHeld = lit≤ tt
-number-small Refusal.Malformed = lit≤ tt
-number-small Refusal.NoKeptVertex = lit≤ tt
-number-small Refusal.BadOffset = lit≤ tt
-number-small Refusal.NoCrossing = lit≤ tt
-number-small Refusal.BeyondTolerance = lit≤ tt
-number-small Refusal.TooFewKept = lit≤ tt
-number-small Refusal.ShortOutput = lit≤ tt
-number-small Refusal.SomeRemoved = lit≤ tt
 
 -- what a yes to the question on the sides says
 side-of : (n : ℕ) → sideFits n ≡ true → (2 ≤ n) × (n ≤ sideLimit)

@@ -10,7 +10,7 @@ use Rattle.step.specs.Walk.{next, prev}
 use Rattle.contour.specs.Walk.{firstsAmong, ahead}
 use Rattle.chord.specs.Crossing.{off, parted, crosses, slidesWithin}
 use Rattle.table.specs.Entries.{entryOf, entriesAnswer, tableLengthAnswer}
-use Rattle.table.specs.Vertices.{keptAt, removedAt, offsetAt}
+use Rattle.table.specs.Vertices.{keptAt, removedAt, pinnedAt, offsetAt}
 use Rattle.table.specs.Kept.{allKeptAnswer}
 use Rattle.drawn.specs.Neighbours.{removedFrom, keptFrom}
 use Rattle.drawn.specs.Drawn.{edgeCrosses}
@@ -23,7 +23,7 @@ pub single-sample : sliceOf (0x4C ∷ 0x03 ∷ 0x00 ∷ 0x03 ∷ 0x00 ∷ 0x00 �
     ≡ 0x4C ∷ 0x03 ∷ 0x00 ∷ 0x03 ∷ 0x00 ∷ 0x43 ∷ 0x00 ∷ 0x00 ∷ 0x00 ∷ 0x01 ∷ 0x00
     ∷ 0x4B ∷ 0xFF ∷ 0x4B ∷ 0xFF ∷ 0x4B ∷ 0x01 ∷ 0x4B ∷ 0x01 ∷ 0x45 ∷ []
 unfolding sliceOf sidesAnswer lengthAnswer spareAnswer borderAnswer tableLengthAnswer entriesAnswer allKeptAnswer heldAnswer heldContour edgeCrosses
-    firstsAmong ahead number edgeCount edgeAt isStick sample bit next prev xor tabulateFrom leastFrom count keptAt removedAt offsetAt removedFrom keptFrom entryOf
+    firstsAmong ahead number edgeCount edgeAt isStick sample bit next prev xor tabulateFrom leastFrom count keptAt removedAt pinnedAt offsetAt removedFrom keptFrom entryOf
     crosses slidesWithin parted off
 single-sample = refl
 

@@ -13,7 +13,7 @@ use Rattle.contour.specs.Contours.{contourOf, firstSticks}
 use Rattle.table.specs.Pins.{PinsStay}
 use Rattle.table.proofs.Pins.{pins-same, pins-then}
 use Rattle.held.specs.Questions.{keptQuestions}
-use Rattle.smooth.specs.Smooth.{Pass, passed, visit, passContour, contourPass, Smoothed, unsmoothed, smoothContour, noContour, smooth}
+use Rattle.smooth.specs.Smooth.{Pass, passed, visit, passContour, contourPass, Smoothed, unsmoothed, smoothContour, noContour}
 use Rattle.smooth.specs.Call.{smoothOf}
 use Rattle.smooth.proofs.Steps.{visit-pins}
 use Rattle.smooth.proofs.Passes.{contour-is, smoothNext, smooth-is, further-is, until-keeps}

@@ -22,7 +22,7 @@ use Rattle.table.specs.Stores.{slid}
 use Rattle.drawn.specs.Drawn.{vertex}
 use Rattle.offset.specs.Offset.{newOffset}
 
--- the new offset of the vertex of a stick in a table whose vertices are all kept, from "its neighbours as they then are"
+-- the new offset of the vertex of a stick, if it is not pinned, in a table whose vertices are all kept, from "its neighbours as they then are"
 abbrev pub smoothedAt : Layer → List ℕ → Edge → ℕ
 smoothedAt L t e = newOffset (vertex L t (prev L e)) (vertex L t (next L e)) e (offsetAt L t e)
 

@@ -32,7 +32,7 @@ pub record Visitable (t : List ℕ) (k : ℕ) (p q : Position) (e : Edge) : Type
   pub kept : suits true (entryOf (getD t k 0)) ≡ true
   pub movable : Movable p q e (offsetOf t k)
 
--- the offset after the step, the change, and the table with that entry alone changed; of a pinned vertex none is
+-- the offset after the step, the change, and the table with that entry alone changed; for a pinned vertex offset and table stay and the change is 0
 pub record Visited (t : List ℕ) (k : ℕ) (p q : Position) (e : Edge) (r : Stepped) (t′ : List ℕ) : Type 0 where
   pub offset : r .offset ≡ cond (pinIn t k) (offsetOf t k) (newOffset p q e (offsetOf t k))
   pub change : r .change ≡ distance (offsetOf t k) (r .offset)

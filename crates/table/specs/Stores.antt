@@ -15,7 +15,7 @@ use Rattle.table.specs.declared.entry.Entry.the-variants.{Kept, Removed,
 abbrev pub store : Size → List ℕ → Edge → Entry → List ℕ
 store size t e x = set t (number size e) (encoded x)
 
--- with e's vertex kept at another offset
+-- with e's vertex kept at another offset, and not pinned: no call slides a pinned one
 abbrev pub slid : Layer → List ℕ → Edge → ℕ → List ℕ
 slid L t e o = store (L .size) t e (Kept o)
 

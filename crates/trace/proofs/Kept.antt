@@ -12,7 +12,7 @@ use Rattle.grid.specs.Edges.{number, edgeCount, isStick, stickAt}
 use Rattle.grid.specs.Questions.{Sound, firstNo}
 use Rattle.grid.specs.declared.question.Answer.{Answer}
 use Rattle.grid.specs.declared.question.Answer.the-variants.{Yes, No}
-use Rattle.grid.proofs.Answers.{number-some}
+use Rattle.grid.proofs.Answers.{number-within}
 use Rattle.grid.proofs.Numbers.{number-below, edgeAt-number}
 use Rattle.contour.proofs.Sticks.{stick-in}
 use Rattle.table.specs.Entries.{entryOf, lengthQuestions}
@@ -48,4 +48,4 @@ trace-kept L t done = by (firstNo (lengthQuestions L (length t))) refl done
   where
     by : (a : Answer) → firstNo (lengthQuestions L (length t)) ≡ a → traceOf L t .refusal ≡ 0 → Sound L × AllKept L (traceOf L t .table)
     by Yes e done = let sound = lengths-of L t e .sound in (sound, rw e (traced-kept L sound))
-    by (No q place) e done = absurd (omega (arith, number-some q, rw e at done))
+    by (No q place) e done = absurd (omega (arith, number-within q, rw e at done))

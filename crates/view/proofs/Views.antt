@@ -10,7 +10,7 @@ use Rattle.grid.specs.Layer.{Layer, layerOf, sizeOf}
 use Rattle.grid.specs.Questions.{firstNo, ifAllYes, layerQuestions, numberOf}
 use Rattle.grid.specs.declared.question.Answer.{Answer}
 use Rattle.grid.specs.declared.question.Answer.the-variants.{Yes, No}
-use Rattle.grid.proofs.Answers.{number-some}
+use Rattle.grid.proofs.Answers.{number-within}
 use Rattle.view.specs.View.{Shown, viewOf, madeOf, partOf, sampleOrOutside, sampleOf}
 use Rattle.view.specs.declared.making.Made.{Made}
 use Rattle.view.specs.declared.viewing.Sampled.{Sampled}
@@ -35,7 +35,7 @@ view-is L answer e = ap (shownBy L) e
 -- the bytes that a view refers to are told by its number
 part-by : (L : Layer) (answer : Answer) → partOf (shownBy L answer .number) (L .bitmap) ≡ shownBy L answer .layer .bitmap
 part-by L Yes = refl
-part-by L (No q place) = rw (ne-eqb (numberOf q) 0 (λ e. let h = number-some q in absurd (omega arith)))
+part-by L (No q place) = rw (ne-eqb (numberOf q) 0 (λ e. let h = number-within q in absurd (omega arith)))
 
 pub part-is : (L : Layer) → partOf (viewOf L .number) (L .bitmap) ≡ viewOf L .layer .bitmap
 unfolding viewOf

@@ -13,8 +13,7 @@ use Rattle.edit.proofs.edit.pin.Tie as tie
 returns : tie.Need-returns
 returns c =
     let a = c .before .before .before .before .args in
-    let none = no-of (c .before .carries-kept .ensures) (c .if1 .taken) in
-    (
+    let none = no-of (c .before .carries-kept .ensures) (c .if1 .taken) in (
       λ bitmap. let L = layerOf (a .size) bitmap in pin-none L (a .table .now) (a .place) (a .stick) (sym (names-kept L (a .table .now) (a .stick)) ∙ none),
       λ bitmap. refl,
     )
@@ -32,8 +31,7 @@ returns-2 c =
     let stored = c .before .before in
     let kept = stored .before .before .before in
     let a = kept .before .before .before .before .args in
-    let some = yes-of (kept .before .carries-kept .ensures) (kept .if1 .left) in
-    (
+    let some = yes-of (kept .before .carries-kept .ensures) (kept .if1 .left) in (
       λ bitmap. let L = layerOf (a .size) bitmap in pin-done L (a .table .now) (a .place) (a .stick) (sym (names-kept L (a .table .now) (a .stick)) ∙ some),
       λ bitmap.
           stored .pin .ensures ∙ ap (λ (e : Edge). pinned (layerOf (a .size) bitmap) (a .table .now) e) (stored .before .edge-named .ensures),

@@ -2,6 +2,7 @@
 -- decides whether all drawn edges cross; the vertex that the walk is at is expected where it stands. `went` is the work on it.
 use mathlib.Core.Path.{_≡_, sym, ap, _∙_}
 use mathlib.Core.Logic.{inl, inr}
+use mathlib.Core.Bool.{not}
 use Prim.Native.Nat.{_+_}
 use native.Mathlib.Omega.{arith}
 use borrow.Author.Needs.{needs}
@@ -37,7 +38,7 @@ kept-here : (c : tie.After-shared-slice-known3 Inv-loop μ-loop)
     → let a = c .before .before .before .before .args in
     let L = layerOf (a .size) (a .bitmap .now) in
     let v = c .before .loop .v in
-    keptAt L (described L (a .sheet .now)) (v .stick) ≡ eqb (getD (a .sheet .now) (v .place) 0) 0x4B
+    keptAt L (described L (a .sheet .now)) (v .stick) ≡ not (eqb (getD (a .sheet .now) (v .place) 0) 0x52)
 kept-here c =
     let at-loop = c .before in
     kept-is (at-loop .before .before .before .pre) (at-loop .loop .inv .expected) (λ k. c .shared-slice-known3 .given k .fits)
@@ -45,13 +46,13 @@ kept-here c =
 held-edge-requires : tie.Need-held-edge-requires Inv-loop μ-loop
 held-edge-requires c κs =
     let at-loop = c .before .before in
-    (at-loop .before .before .before .pre, (at-loop .loop .inv .expected, kept-here (c .before) ∙ eq-eqb _ _ (c .if1 .taken)))
+    (at-loop .before .before .before .pre, (at-loop .loop .inv .expected, kept-here (c .before) ∙ ap not (ne-eqb _ _ (c .if1 .taken))))
 
 returns : tie.Need-returns Inv-loop μ-loop
 returns c =
     let asked = c .before .before in
     let at-loop = asked .before .before in
-    at-no (at-loop .before .before .before .pre .sound) (at-loop .loop .inv) (kept-here (asked .before) ∙ eq-eqb _ _ (asked .if1 .taken))
+    at-no (at-loop .before .before .before .pre .sound) (at-loop .loop .inv) (kept-here (asked .before) ∙ ap not (ne-eqb _ _ (asked .if1 .taken)))
     (sym (c .before .held-edge .ensures) ∙ not-true _ (c .if2 .taken))
 
 add-kept : tie.Need-add-kept Inv-loop μ-loop
@@ -75,11 +76,11 @@ went c =
     let e = at-loop .loop .v .stick in
     elim (c .if1 .came) [
       | inl w ↦
-          let yes = kept-here (c .before) ∙ eq-eqb _ _ (w .0 .taken) in
+          let yes = kept-here (c .before) ∙ ap not (ne-eqb _ _ (w .0 .taken)) in
           let crossed = sym (w .1 .ensures) ∙ not-false _ (w .2 .left) in
           (cleared-kept L t e yes crossed, omega (arith, w .3, ap asNumber yes))
       | inr w ↦
-          let none = kept-here (c .before) ∙ ne-eqb _ _ (w .0 .left) in
+          let none = kept-here (c .before) ∙ ap not (eq-eqb _ _ (w .0 .left)) in
           (cleared-none L t e none, omega (arith, w .1, ap asNumber none))
     ]
 

@@ -47,7 +47,7 @@ returns-5 : tie.Need-returns-5
 returns-5 c =
     let a = c .before .before .before .before .before .args in
     let rest = c .match .rest in
-    step-is _ (a .t) (a .roll .now) (a .at) (a .table .now) 
+    step-is _ (a .t) (a .roll .now) (a .at) (a .table .now)
     (at-other (a .roll .now) (a .at) (rest .0 .0 .0 .1) (rest .0 .0 .1) (rest .0 .1) (rest .1))
 
 pub run-command-spec : {M : Type 1} → statement M

@@ -3,13 +3,13 @@ use mathlib.Core.Path.{ap}
 use Prim.Native.Nat.{ℕ}
 use native.Mathlib.Omega.{arith}
 use borrow.Author.Needs.{needs}
+use Rattle.grid.proofs.Answers.{number-within}
 use Rattle.slicing.specs.Slice.{refusedBytes, stored}
-use Rattle.slicing.proofs.Bounds.{number-small}
 use Rattle.slicing.proofs.steps.refuse.Statement.{statement}
 use Rattle.slicing.proofs.steps.refuse.Tie as tie
 
 cast-output : tie.Need-cast-output
-cast-output c = omega (arith, number-small (c .before .before .args .question))
+cast-output c = omega (arith, number-within (c .before .before .args .question))
 
 returns : tie.Need-returns
 returns c =
