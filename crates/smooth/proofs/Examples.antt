@@ -42,7 +42,7 @@ nine-passes = refl
 
 -- "Limit 0: 0 passes, total 0, limit."
 pub no-pass : smooth single 0 traced ≡ record { table = traced; passes = 0; total = 0; settled = false }
-unfolding smooth firstsAmong number edgeCount edgeAt isStick sample bit next xor count
+unfolding smooth firstsAmong number edgeCount edgeAt isStick sample bit next xor entryOf pinnedAt count
 no-pass = refl
 
 -- "No inside sample: 0 passes, settled.", with any limit, 0 too
