@@ -339,7 +339,8 @@ fn draws_outlines_and_bores() {
 fn marks(picture: &str, class: &str) -> Vec<String> {
     let begin = format!("<path class=\"dot {}\" ", class);
     let path = picture.lines().find_map(|line| line.strip_prefix(&begin)?.split("d=\"").nth(1)?.split('"').next());
-    path.unwrap_or("").split_terminator("h0").map(String::from).collect()
+    let marks = path.unwrap_or("").split('M').skip(1);
+    marks.map(|mark| format!("M{}", mark.split('h').next().unwrap_or(""))).collect()
 }
 
 /// The texts of a picture's legend.
@@ -361,6 +362,8 @@ fn draws_pinned_vertices_by_a_mark_of_their_own() {
     assert_eq!(marks(&picture, "kept-outline").len(), 4);
     assert!(picture.contains("vertices: 4 kept (1 pinned), 0 removed</text>"));
     assert!(picture.contains("\n.pinned{"));
+    // A square has a stroke with a direction.
+    assert!(picture.contains("M255 256h.1\"") && !picture.contains("M255 256h0\""));
     let all = ["outline, inside shaded", "inside sample", "outside sample", "kept vertex", "pinned vertex"];
     assert_eq!(legend(&picture), all);
     // With all of them pinned, no mark of a kept vertex is to be seen.

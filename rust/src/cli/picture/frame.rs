@@ -35,6 +35,15 @@ text{font-family:sans-serif;font-size:13px;fill:#333}
 /// The style of the marks at pinned vertices, squares in place of round marks; it stands only in a picture of pinned vertices.
 const PINNED_STYLE: &str = ".pinned{stroke:#1d7a35;stroke-linecap:square}\n";
 
+/// The stroke of a mark of this class: a point. That of a square is a little longer, since not every program draws a square at a stroke that
+/// has no direction.
+pub fn stroke(class: &str) -> &'static str {
+    match class {
+        "pinned" => "h.1",
+        _ => "h0",
+    }
+}
+
 pub struct Frame {
     columns: f64,
     rows: f64,

@@ -1,6 +1,6 @@
 //! What the marks mean.
 
-use super::frame::Frame;
+use super::frame::{stroke, Frame};
 use super::shapes::Shapes;
 
 /// A row's height, about a letter's width and the gap between two entries, in pixels.
@@ -46,7 +46,8 @@ impl Entry {
                 format!("<rect class=\"{}\" stroke-width=\"2\" x=\"{}\" y=\"{}\" width=\"24\" height=\"12\"/>", self.class, x, y - 6.0)
             }
             Symbol::Dot(width) => {
-                format!("<path class=\"dot {}\" stroke-width=\"{}\" d=\"M{} {}h0\"/>", self.class, width, x + 4.0, y)
+                let (class, stroke) = (self.class, stroke(self.class));
+                format!("<path class=\"dot {}\" stroke-width=\"{}\" d=\"M{} {}{}\"/>", class, width, x + 4.0, y, stroke)
             }
         };
         format!("{}<text x=\"{}\" y=\"{}\">{}</text>\n", symbol, x + self.symbol.room(), y + 4.5, self.text)

@@ -1,6 +1,6 @@
 //! What is drawn inside the frame: contours from the planner's list, removed and pinned vertices from the table, samples.
 
-use super::frame::Frame;
+use super::frame::{stroke, Frame};
 use puzhenim::{Kind, Layer, Refusal, Vertex};
 
 type Point = (i64, i64);
@@ -119,7 +119,7 @@ fn samples(layer: Layer) -> Result<(Vec<Point>, Vec<Point>), Refusal> {
 fn dots(class: &str, width: f64, points: impl IntoIterator<Item = Point>) -> String {
     let mut path = String::new();
     for (x, y) in points {
-        path += &format!("M{} {}h0", x, y);
+        path += &format!("M{} {}{}", x, y, stroke(class));
     }
     if path.is_empty() {
         return path;
