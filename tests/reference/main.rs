@@ -105,7 +105,7 @@ fn faithful(commands: &[Command]) -> Result<Vec<u8>, Failure> {
         let stays = opens || pins::stay(&before, &machine.table);
         if opened && !(stays && test::stays_faithful(&machine)) {
             return Err(Failure::Message(format!(
-                "not faithful after command {}",
+                "not faithful, or a pinned vertex moved, after command {}",
                 i
             )));
         }

@@ -222,9 +222,9 @@ pub fn some_noes(b: &mut Builder, call: Call) {
     }
 }
 
-/// Question 6: entries that no stick may have, and entries off sticks that are
-/// not 0; one or several, and with removed vertices that break 7 or 15. Among them
-/// are 513 and 640, which a pinned vertex has.
+/// Question 6: entries that no stick may have, among them some that a pinned vertex
+/// has, and entries off sticks that are not 0; one or several, and with removed
+/// vertices that break 7 or 15.
 pub fn entries(b: &mut Builder, call: Call, times: usize) {
     for _ in 0..times {
         let layer = b.some_layer(12);

@@ -23,7 +23,7 @@ use Rattle.table.specs.Vertices.{isKept, isRemoved, offsetIn, entryAt, keptAt, 
 use Rattle.table.specs.Stores.{store, slid, without, pinned}
 use Rattle.table.specs.declared.entry.Entry.{Entry}
 use Rattle.table.specs.declared.entry.Entry.the-variants.{Kept, Removed, Pinned}
-use Rattle.table.proofs.Entries.{Inside, inside-suits, suits-vertex}
+use Rattle.table.proofs.Entries.{Inside, inside-suits, suits-vertex, exclusive}
 use Rattle.table.proofs.Stores.{store-here, store-other, store-alike, store-entries, store-length}
 use Rattle.drawn.specs.Neighbours.{gapAfter, gapBefore, nextKept, previousKept}
 use Rattle.drawn.proofs.Gaps.{kept-not-removed, kept-same, gap-same}
@@ -53,22 +53,41 @@ module _ (L : Layer) (sound : Sound L) (t : List ℕ) (exact : length t ≡ edge
           before-end = omega (arith, ap offsetIn q, inside .high);
         }
 
+  -- A kept vertex stored in place of a kept one: what is kept or removed stays so
+
+  module _ (x : Entry) (inside : Inside (offsetIn x)) (kept : isKept x ≡ true) where
+    abbrev stored : List ℕ
+    stored = store (L .size) t u x
+
+    stored-kept : (e : Edge) → keptAt L stored e ≡ keptAt L t e
+    unfolding keptAt
+    stored-kept = store-alike L sound t exact u (drawn .stick) x inside isKept (kept ∙ sym (drawn .kept))
+
+    stored-removed : (e : Edge) → removedAt L stored e ≡ removedAt L t e
+    unfolding removedAt
+    stored-removed =
+        store-alike L sound t exact u (drawn .stick) x inside isRemoved (exclusive x kept ∙ sym (kept-not-removed L t u (drawn .kept)))
+
+    stored-next : (e : Edge) → nextKept L stored e ≡ nextKept L t e
+    stored-next = kept-same (next L) L t stored stored-removed (edgeCount (L .size))
+
+    stored-after : (e : Edge) → gapAfter L stored e ≡ gapAfter L t e
+    stored-after = gap-same (next L) L t stored stored-removed (edgeCount (L .size))
+
   -- A slide
 
   module _ (o : ℕ) (inside : Inside o) where
     pub slide-kept : (e : Edge) → keptAt L (slid L t u o) e ≡ keptAt L t e
-    unfolding keptAt
-    slide-kept = store-alike L sound t exact u (drawn .stick) (Kept o) inside isKept (sym (drawn .kept))
+    slide-kept = stored-kept (Kept o) inside refl
 
     pub slide-removed : (e : Edge) → removedAt L (slid L t u o) e ≡ removedAt L t e
-    unfolding removedAt
-    slide-removed = store-alike L sound t exact u (drawn .stick) (Kept o) inside isRemoved (sym (kept-not-removed L t u (drawn .kept)))
+    slide-removed = stored-removed (Kept o) inside refl
 
     pub slide-next : (e : Edge) → nextKept L (slid L t u o) e ≡ nextKept L t e
-    slide-next = kept-same (next L) L t (slid L t u o) slide-removed (edgeCount (L .size))
+    slide-next = stored-next (Kept o) inside refl
 
     pub slide-after : (e : Edge) → gapAfter L (slid L t u o) e ≡ gapAfter L t e
-    slide-after = gap-same (next L) L t (slid L t u o) slide-removed (edgeCount (L .size))
+    slide-after = stored-after (Kept o) inside refl
 
     pub slide-previous : (e : Edge) → previousKept L (slid L t u o) e ≡ previousKept L t e
     slide-previous = kept-same (prev L) L t (slid L t u o) slide-removed (edgeCount (L .size))
@@ -93,16 +112,17 @@ module _ (L : Layer) (sound : Sound L) (t : List ℕ) (exact : length t ≡ edge
     pub slide-length : length (slid L t u o) ≡ edgeCount (L .size)
     slide-length = store-length L t u (Kept o) ∙ exact
 
-  -- A removal
+  -- A removal and a pin keep the offset
 
   module _ (vertices : Vertices L t) where
-    abbrev gone : Entry
-    gone = Removed (offsetAt L t u)
-
     inside : Inside (offsetAt L t u)
     inside = let v = vertices u (drawn .stick) in record { low = v .after-start; high = omega (arith, v .before-end) }
 
-    -- no vertex moves
+    -- A removal: no vertex moves
+
+    abbrev gone : Entry
+    gone = Removed (offsetAt L t u)
+
     pub removal-vertex : (e : Edge) → vertex L (without L t u) e ≡ vertex L t e
     unfolding offsetAt
     removal-vertex e = ap (position e) (store-alike L sound t exact u (drawn .stick) gone inside offsetIn refl e)
@@ -124,34 +144,29 @@ module _ (L : Layer) (sound : Sound L) (t : List ℕ) (exact : length t ≡ edge
     pub removal-length : length (without L t u) ≡ edgeCount (L .size)
     removal-length = store-length L t u gone ∙ exact
 
-    -- A pin: no vertex moves, and what is kept or removed stays so
+    -- A pin
 
-    abbrev held-fast : Entry
-    held-fast = Pinned (offsetAt L t u)
+    abbrev fixed : Entry
+    fixed = Pinned (offsetAt L t u)
 
     pub pin-kept : (e : Edge) → keptAt L (pinned L t u) e ≡ keptAt L t e
-    unfolding keptAt
-    pin-kept = store-alike L sound t exact u (drawn .stick) held-fast inside isKept (sym (drawn .kept))
-
-    pin-removed : (e : Edge) → removedAt L (pinned L t u) e ≡ removedAt L t e
-    unfolding removedAt
-    pin-removed = store-alike L sound t exact u (drawn .stick) held-fast inside isRemoved (sym (kept-not-removed L t u (drawn .kept)))
+    pin-kept = stored-kept fixed inside refl
 
     pub pin-next : (e : Edge) → nextKept L (pinned L t u) e ≡ nextKept L t e
-    pin-next = kept-same (next L) L t (pinned L t u) pin-removed (edgeCount (L .size))
+    pin-next = stored-next fixed inside refl
 
     pub pin-after : (e : Edge) → gapAfter L (pinned L t u) e ≡ gapAfter L t e
-    pin-after = gap-same (next L) L t (pinned L t u) pin-removed (edgeCount (L .size))
+    pin-after = stored-after fixed inside refl
 
     pub pin-vertex : (e : Edge) → vertex L (pinned L t u) e ≡ vertex L t e
     unfolding offsetAt
-    pin-vertex e = ap (position e) (store-alike L sound t exact u (drawn .stick) held-fast inside offsetIn refl e)
+    pin-vertex e = ap (position e) (store-alike L sound t exact u (drawn .stick) fixed inside offsetIn refl e)
 
     pub pin-vertices : Vertices L (pinned L t u)
-    pin-vertices = stored-vertices held-fast inside vertices
+    pin-vertices = stored-vertices fixed inside vertices
 
     pub pin-entries : entriesAnswer L t ≡ Yes → entriesAnswer L (pinned L t u) ≡ Yes
-    pin-entries = store-entries L sound t exact u (drawn .stick) held-fast inside
+    pin-entries = store-entries L sound t exact u (drawn .stick) fixed inside
 
     pub pin-length : length (pinned L t u) ≡ edgeCount (L .size)
-    pin-length = store-length L t u held-fast ∙ exact
+    pin-length = store-length L t u fixed ∙ exact

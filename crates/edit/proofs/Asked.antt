@@ -66,7 +66,7 @@ pub names-kept : (L : Layer) (t : List ℕ) (s : Named) → namesKept (L .size) 
 unfolding keptAt
 names-kept L t s = refl
 
--- a stick that it names has an entry
+-- a stick to which question 9 says yes has an entry
 pub in-table : (s : Named) {size : Size} {t : List ℕ} → Exact size t → namesKept size t s ≡ true → HasEntry size t (edgeNamed s)
 in-table s {size} {t} given kept =
     let inside = and-split (leb (s .kind) 1 && inGrid size (edgeNamed s)) _ kept .0 in
@@ -100,9 +100,9 @@ module _ (L : Layer) (t : List ℕ) (s : Named) {b : Bool} (is : b ≡ namesPinn
   unfolding pinnedAt
   pinned-no h = ap not (sym is ∙ h)
 
-  pub free-yes : b ≡ false → mayMove L t s ≡ true
+  pub unpinned-yes : b ≡ false → mayMove L t s ≡ true
   unfolding pinnedAt
-  free-yes h = ap not (sym is ∙ h)
+  unpinned-yes h = ap not (sym is ∙ h)
 
 -- question 10
 
@@ -141,7 +141,7 @@ module _ (L : Layer) (tolerance : ℕ) (t : List ℕ) (place : ℕ) (s : Named) 
       (edgeCrosses L moved P && edgeCrosses L moved e) (edgeWithin L moved tolerance P && edgeWithin L moved tolerance e) all in
       record { kept = y .0; unpinned = y .1; offset = y .2; crossed = y .3; within = y .4 }
 
-  -- the table after it is accepted too, and has the pins
+  -- the table after it is accepted too, and keeps the pins
   pub slide-keeps : Accepted L t → slideAnswer L tolerance t place s o ≡ Yes → Accepted L moved
   slide-keeps accepted all =
       let yes = slide-yes all in
@@ -158,12 +158,12 @@ module _ (tolerance place : ℕ) {L : Layer} {t : List ℕ} {s : Named} (k : Nam
 
   pub slide-bad : mayMove L t s ≡ true → o < 1 → No BadOffset place ≡ slideAnswer L tolerance t place s o
   unfolding slideAnswer
-  slide-bad free h = rw (k .kept, free, lt-leb 1 o h)
+  slide-bad unpinned h = rw (k .kept, unpinned, lt-leb 1 o h)
 
   pub slide-asked : mayMove L t s ≡ true → {x : Edge} → x ≡ edgeNamed s → Slidable L t x o → {a b : Chord} → a ≡ slidInto L t x o → b ≡ slidOut L t x o
       → chordsAnswer L t tolerance place a b ≡ slideAnswer L tolerance t place s o
   unfolding slideAnswer
-  slide-asked free is r {a} {b} ea eb =
+  slide-asked unpinned is r {a} {b} ea eb =
       let e = edgeNamed s in
       let v = named-at s (k .accepted) (k .kept) in
       let sound = k .accepted .sound in
@@ -173,7 +173,7 @@ module _ (tolerance place : ℕ) {L : Layer} {t : List ℕ} {s : Named} (k : Nam
       let out = eb ∙ ap (λ (x : Edge). slidOut L t x o) is in
       rw (
         k .kept,
-        free,
+        unpinned,
         r .offset,
         ← chord-crosses L t′ (previousKept L t e) a into,
         ← chord-crosses L t′ e b out,
@@ -223,7 +223,7 @@ module _ (tolerance place : ℕ) {L : Layer} {t : List ℕ} {s : Named} (k : Nam
   unfolding removalAnswer
   removal-pinned pin = rw (k .kept, pin)
 
-module _ (tolerance place : ℕ) {L : Layer} {t : List ℕ} {s : Named} (k : NamedKept L t s) (free : mayMove L t s ≡ true) {x : Edge}
+module _ (tolerance place : ℕ) {L : Layer} {t : List ℕ} {s : Named} (k : NamedKept L t s) (unpinned : mayMove L t s ≡ true) {x : Edge}
     (is : x ≡ edgeNamed s) {c : Chord} (joined : c ≡ joinedOver L t x) where
   abbrev accepted : Accepted L t
   accepted = k .accepted
@@ -241,12 +241,12 @@ module _ (tolerance place : ℕ) {L : Layer} {t : List ℕ} {s : Named} (k : Nam
 
   pub removal-missed : crossesChord L c ≡ false → No NoCrossing place ≡ removalAnswer L tolerance t place s
   unfolding removalAnswer
-  removal-missed f = rw (k .kept, free, crossing ∙ f)
+  removal-missed f = rw (k .kept, unpinned, crossing ∙ f)
 
   module _ (crossed : crossesChord L c ≡ true) where
     pub removal-far : withinChord L t tolerance c ≡ false → No BeyondTolerance place ≡ removalAnswer L tolerance t place s
     unfolding removalAnswer
-    removal-far f = rw (k .kept, free, crossing ∙ crossed, measured ∙ f)
+    removal-far f = rw (k .kept, unpinned, crossing ∙ crossed, measured ∙ f)
 
     -- once the joined edge crosses there are three kept vertices left, by the count and by the walk
     pub removal-done : withinChord L t tolerance c ≡ true → Yes ≡ removalAnswer L tolerance t place s
@@ -255,7 +255,7 @@ module _ (tolerance place : ℕ) {L : Layer} {t : List ℕ} {s : Named} (k : Nam
         let enough =
         le-leb 3 _
         (removal-three L (accepted .sound) t (accepted .exact) (vertices accepted) (accepted .held) (edgeNamed s) (v .drawn) (crossing ∙ crossed)) in
-        rw (k .kept, free, crossing ∙ crossed, measured ∙ f, enough)
+        rw (k .kept, unpinned, crossing ∙ crossed, measured ∙ f, enough)
 
     pub removal-third-left : thirdLeft L t x (c .stick) ≡ true
     removal-third-left =
@@ -276,11 +276,11 @@ module _ (tolerance place : ℕ) {L : Layer} {t : List ℕ} {s : Named} (k : Nam
 module _ (L : Layer) (t : List ℕ) (place : ℕ) (s : Named) where
   pub pin-none : carriesKept L t s ≡ false → No NoKeptVertex place ≡ pinAnswer L t place s
   unfolding pinAnswer
-  pin-none f = rw f
+  pin-none f = sym (ap (askAt place NoKeptVertex) f)
 
   pub pin-done : carriesKept L t s ≡ true → Yes ≡ pinAnswer L t place s
   unfolding pinAnswer
-  pin-done f = rw f
+  pin-done f = sym (ap (askAt place NoKeptVertex) f)
 
   pin-yes : pinAnswer L t place s ≡ Yes → carriesKept L t s ≡ true
   pin-yes all = both-sides (carriesKept L t s) (λ y. y) (λ no. absurd (no-not-yes NoKeptVertex place (pin-none no ∙ all)))

@@ -72,7 +72,7 @@ chordsAnswer L t tolerance place a b =
 abbrev pub namesKept : Size → List ℕ → Named → Bool
 namesKept size t s = leb (s .kind) 1 && inGrid size (edgeNamed s) && isKept (entryOf (getD t (number size (edgeNamed s)) 0))
 
--- and question 16
+-- and what question 16 asks: the vertex is pinned
 abbrev pub namesPinned : Size → List ℕ → Named → Bool
 namesPinned size t s = isPinned (entryOf (getD t (number size (edgeNamed s)) 0))
 

@@ -1,4 +1,4 @@
--- One edit: its questions and the table after it (Edits), what they say over points (Meaning), and what the contracts of its parts cite
+-- One edit: its questions (Edits; the table after it is in `table` Stores), what they say over points (Meaning), and what the contracts of its parts cite
 -- besides (Chords).
 pub mod Edits
 pub mod Meaning

@@ -49,7 +49,7 @@ fn ask_chords(
     Answer::Yes
 }
 
-// Question 16 and 10 to 12 of a slide; a slide keeps the number of kept vertices.
+// Questions 16 and 10 to 12 of a slide; a slide keeps the number of kept vertices.
 fn ask_slide(
     size: Size,
     bitmap: &[u8],
@@ -62,8 +62,8 @@ fn ask_slide(
     requires { ⌜ NamedKept (layerOf size (now bitmap)) (now table) stick ⌝ }
     ensures { λ r. ⌜ r ≡ slideAnswer (layerOf size (now (bitmap .entry))) t (now (table .entry)) place stick offset ⌝ }
 {
-    let pinned = carries_pin(size, table, stick);
-    if pinned {
+    let is_pinned = carries_pin(size, table, stick);
+    if is_pinned {
         return Answer::No(Refusal::VertexPinned, place);
     }
     if offset < 1 {
@@ -88,7 +88,7 @@ fn leaves_three(size: Size, bitmap: &[u8], table: &[u16], e: Edge, before: Edge)
     !same_edge(third.stick, before)
 }
 
-// Question 16 and 11 to 13 of a removal.
+// Questions 16 and 11 to 13 of a removal.
 fn ask_removal(
     size: Size,
     bitmap: &[u8],

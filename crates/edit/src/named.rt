@@ -1,4 +1,4 @@
-// The stick that an edit names, question 9: it lies in the grid and carries a kept vertex, and question 16: whether that is pinned.
+// The stick that an edit names, question 9: it lies in the grid and carries a kept vertex, and what 16 asks: whether that is pinned.
 use grid::Edge;
 use grid::Size;
 use grid::edge_columns;
@@ -55,7 +55,7 @@ pub fn carries_kept(size: Size, table: &[u16], stick: Named) -> bool
     is_kept(entry_at(size, table, e))
 }
 
-// Question 16, after a yes to 9.
+// Whether question 16, put after a yes to 9, is answered no: the vertex is pinned.
 pub fn carries_pin(size: Size, table: &[u16], stick: Named) -> bool
     requires { ⌜ HasEntry size (now table) (edgeNamed stick) ⌝ }
     ensures { λ r. ⌜ r ≡ namesPinned size (now (table .entry)) stick ⌝ }

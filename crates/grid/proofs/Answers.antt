@@ -22,7 +22,7 @@ use Rattle.grid.specs.declared.question.Answer.the-variants.{Yes, No}
 pub no-not-yes : (q : Refusal) (p : ℕ) → No q p ≡ Yes → ⊥
 no-not-yes q p e = let z : _≡_ {A = ℕ} 0 1 = cc in omega arith
 
--- the number of a refusal is not 0, which stands for done, and is a small one
+-- the number of a refusal is not 0, which stands for done, and at most 16
 pub number-within : (q : Refusal) → (1 ≤ numberOf q) × (numberOf q ≤ 16)
 number-within Refusal.BadSides = (omega arith, omega arith)
 number-within Refusal.BitmapLength = (omega arith, omega arith)

@@ -1,6 +1,6 @@
-// The guarantee over every list of calls, and the paper's cases: theorems, in specs/ and proofs/. The functions here make each call that the
-// guarantee speaks of, and promise that it leaves the table that the theorem's definitions name: so the theorem is about this code. The exported functions
-// have it too (puzhenim, proofs/Exported).
+// The guarantee over every list of calls, that pins hold over such a list, and the paper's cases: theorems, in specs/ and proofs/. The functions
+// here make each call that the first two speak of, and promise that it leaves the table that the theorems' definitions name: so the theorems are about
+// this code. The exported functions have them too (puzhenim, proofs/Exported).
 mod calls;
 mod openings;
 

@@ -1,6 +1,6 @@
 -- Edits of a held layer. A slide or a removal leaves it held if the redrawn edges cross every removed stick between their ends, since all
--- others are as before; a pin redraws none. A removal that does so leaves more than three kept vertices on its contour, so that question 13 is
--- never answered no.
+-- others are as before. A removal whose edge crosses them leaves more than three kept vertices on its contour, so that question 13 is never
+-- answered no. A pin redraws none.
 use mathlib.Core.Path.{_≡_, ap, sym, subst, _∙_}
 use mathlib.Core.Logic.{_≢_}
 use mathlib.Core.Bool.{true, false}

@@ -1,5 +1,5 @@
 -- Demand 3 over the exported functions, as a C caller makes the calls: with figures of any length, where fewer than four refuse a call before its
--- first question; and so that pins hold. proofs/Exported.antt proves both.
+-- first question; and, over the same calls, that pins hold (Note 5). proofs/Exported.antt proves both.
 use mathlib.Core.Path.{_≡_}
 use mathlib.Core.Bool.{true, not}
 use mathlib.Core.List.{List, foldl}

@@ -93,8 +93,8 @@ pub pinned-twice : rollOf bar 0 (pinThen (pinThen (0x45 ∷ []))) (middle 128) �
 unfolding run
 pinned-twice = refl
 
--- "16, a slide or removal of a pinned vertex, after question 9 and before 10, with the command's byte offset and the count done": of the slide
--- and removal from above, and of a slide to 0
+-- "16, a slide or removal of a pinned vertex, after question 9 and before 10, with the command's byte offset and the count done": of the slide, at
+-- which the roll from above stops; of a slide to 0; of a removal
 pub pinned-slide : rollOf bar 255 (pinThen slideAndRemove) (middle 128) ≡ record { refusal = 16; place = 6; done = 1; table = middle 640 }
 unfolding run
 pinned-slide = refl
@@ -109,7 +109,7 @@ pub pinned-removal : rollOf bar 255 (0x58 ∷ 1 ∷ 2 ∷ 0 ∷ 0 ∷ 0 ∷ 0x45
 unfolding run
 pinned-removal = refl
 
--- a removed vertex gives 9, to a pin as to a slide: it has none
+-- a pin of a removed vertex gives 9
 pub removed-not-pinned : rollOf bar 0 (pinThen (0x45 ∷ [])) (middle 396) ≡ record { refusal = 9; place = 0; done = 0; table = middle 396 }
 unfolding run
 removed-not-pinned = refl

@@ -19,7 +19,7 @@ use Rattle.roll.specs.declared.rolling.Step.{Step}
 use Rattle.roll.specs.declared.rolling.Step.the-variants.{On, End, Stop}
 use Rattle.roll.specs.Commands.{Command, slides, removes, pins, ends, wrong, namedAt, commandAt, formedFrom}
 use Rattle.edit.specs.Edits.{Named, edgeNamed, slideAnswer, removalAnswer, pinAnswer}
-use Rattle.edit.specs.Chords.{storedIf}
+use Rattle.edit.specs.Chords.{storedIf, Exact}
 use Rattle.roll.specs.Steps.{Stepped, stepped, stepOn, stepBy, slideStep, removalStep, pinStep, stepOf, Runnable, Readable}
 use Rattle.roll.specs.Roll.{Outcome, runFrom}
 use Rattle.roll.proofs.Forms.{formed-slide, formed-removal, formed-pin, formed-wrong, at-slide, at-slide-cut, at-removal, at-removal-cut, at-pin, at-pin-cut, at-end, at-none}
@@ -98,8 +98,9 @@ module _ {L : Layer} {t r : List ℕ} {i : ℕ} (k : Runnable L t r i) where
   pub removal-readable : getD r i 0 ≡ 0x58 → Readable L t r i 6
   removal-readable b = record { accepted = k .accepted; whole = removal-whole r i (k .formed) b }
 
-  pub pin-readable : getD r i 0 ≡ 0x50 → Readable L t r i 6
-  pin-readable b = record { accepted = k .accepted; whole = pin-whole r i (k .formed) b }
+  pub pin-readable : getD r i 0 ≡ 0x50 → Exact (L .size) t × (i + 6 ≤ length r)
+  pin-readable b =
+      (record { sized = k .accepted .sound .whole .sized; exact = k .accepted .exact }, pin-whole r i (k .formed) b)
 
   module _ (tolerance : ℕ) where
     pub slide-here : getD r i 0 ≡ 0x53 → slideStep L tolerance i t (namedAt r (i + 1)) (getD r (i + 6) 0) ≡ stepOf L tolerance r i t

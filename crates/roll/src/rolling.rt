@@ -8,12 +8,13 @@ use grid::Answer;
 use grid::Refusal;
 use grid::Size;
 ghost use mathlib.Core.Path.{_≡_};
-ghost use mathlib.Core.List.{[], _∷_, _++_};
-ghost use Prim.Native.Nat.{_+_};
+ghost use mathlib.Core.List.{List, [], _∷_, _++_};
+ghost use Prim.Native.Nat.{ℕ, _+_, _≤_};
 ghost use lib.ListN.{length, getD};
 ghost use Rattle.grid.specs.Layer.{layerOf, sizeOf};
 ghost use Rattle.grid.specs.Questions.{firstNo};
 ghost use Rattle.held.specs.Questions.{heldQuestions};
+ghost use Rattle.edit.specs.Chords.{Exact};
 ghost use Rattle.roll.specs.Commands.{namedAt, rollAnswer};
 ghost use Rattle.roll.specs.Roll.{outcome, runFrom, rollOf};
 ghost use Rattle.roll.specs.Steps.{stepped, stepOn, slideStep, removalStep, pinStep, stepOf, Runnable, Readable};
@@ -61,9 +62,11 @@ fn remove_at(size: Size, bitmap: &[u8], table: &mut [u16], roll: &[u8], at: usiz
     step_after(remove(size, bitmap, table, at, stick, t), at + 6)
 }
 
-fn pin_at(size: Size, bitmap: &[u8], table: &mut [u16], roll: &[u8], at: usize) -> Step
-    requires { ⌜ Readable (layerOf size (now bitmap)) (now table) (now roll) at 6 ⌝ }
-    ensures { λ r. ⌜ stepped r (now (table .exit)) ≡ pinStep (layerOf size (now (bitmap .entry))) at (now (table .entry)) (namedAt (now (roll .entry)) (at + 1)) ⌝ }
+// A pin does not depend on the samples.
+fn pin_at(size: Size, table: &mut [u16], roll: &[u8], at: usize) -> Step
+    requires { ⌜ Exact size (now table) ⌝ }
+    requires { ⌜ at + 6 ≤ length (now roll) ⌝ }
+    ensures { λ r. ⌜ ((bitmap : List ℕ) → stepped r (now (table .exit)) ≡ pinStep (layerOf size bitmap) at (now (table .entry)) (namedAt (now (roll .entry)) (at + 1))) ⌝ }
 {
     let stick = named_at(roll, at + 1);
     step_after(pin(size, table, at, stick), at + 6)
@@ -78,7 +81,7 @@ fn run_command(size: Size, bitmap: &[u8], table: &mut [u16], roll: &[u8], at: us
     match byte {
         b'S' => slide_at(size, bitmap, table, roll, at, t),
         b'X' => remove_at(size, bitmap, table, roll, at, t),
-        b'P' => pin_at(size, bitmap, table, roll, at),
+        b'P' => pin_at(size, table, roll, at),
         b'E' => Step::End,
         _ => Step::Stop(Refusal::Malformed, at),
     }

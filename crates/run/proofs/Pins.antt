@@ -27,10 +27,10 @@ module _ (L : Layer) (t₀ : List ℕ) (tolerance : ℕ) where
   removed-pins p q (u ∷ c) h t stay =
       let both = and-split (chordPasses L t₀ tolerance p q u) (each (chordPasses L t₀ tolerance p q) c) h in
       let over = crosses p q u && slidesWithin tolerance p q u (offsetAt L t₀ u) in
-      let free = not-true (pinnedAt L t₀ u) (and-split over (not (pinnedAt L t₀ u)) (both .0) .1) in
+      let unpinned = not-true (pinnedAt L t₀ u) (and-split over (not (pinnedAt L t₀ u)) (both .0) .1) in
       removed-pins p q c (both .1) (without L t u)
       (record {
-        same-entry = λ k pin. store-elsewhere L t u (Removed (offsetAt L t u)) k (other-entry L t₀ u free k pin) ∙ stay .same-entry k pin;
+        same-entry = λ k pin. store-elsewhere L t u (Removed (offsetAt L t u)) k (other-entry L t₀ u unpinned k pin) ∙ stay .same-entry k pin;
       })
 
   pub inner-pins : (e : Edge) (n : ℕ) → passes L t₀ tolerance e n ≡ true → PinsStay t₀ (foldl (without L) t₀ (between L e n))

@@ -1,7 +1,7 @@
 -- Simplify leaves every pinned entry as it is, on every layer and table: what is removed of a run that passes is not pinned (`run` Pins), so a run
 -- that is tried leaves the pins, a contour's two runs do, and one contour after the other.
 use mathlib.Core.Path.{_≡_, refl, _∙_}
-use mathlib.Core.List.{List, [], _∷_, foldl}
+use mathlib.Core.List.{List}
 use Prim.Native.Nat.{ℕ, zero, suc, _-_}
 use lib.ListN.{length}
 use Rattle.arith.proofs.Booleans.{both-sides}
@@ -12,7 +12,7 @@ use Rattle.grid.specs.declared.question.Answer.{Answer}
 use Rattle.grid.specs.declared.question.Answer.the-variants.{Yes, No}
 use Rattle.contour.specs.Contours.{contourOf, firstSticks}
 use Rattle.table.specs.Pins.{PinsStay}
-use Rattle.table.proofs.Pins.{pins-same, pins-then}
+use Rattle.table.proofs.Pins.{pins-same, pins-then, pins-fold}
 use Rattle.held.specs.Questions.{keptQuestions}
 use Rattle.run.specs.Runs.{stickAfter, passes}
 use Rattle.run.proofs.Pins.{inner-pins}
@@ -39,13 +39,11 @@ module _ (L : Layer) (tolerance : ℕ) where
       rw (contour-runs L tolerance s f)
       (pins-then (tryRun-pins n s f (half n)) (tryRun-pins n (tryRun L tolerance n s f (half n)) (stickAfter L (half n) f) (n - half n)))
 
-  contours-pins : (l : List Edge) (s : Progress) → PinsStay (s .table) (foldl (simplifyContour L tolerance) s l .table)
-  contours-pins [] s = pins-same
-  contours-pins (f ∷ l) s = pins-then (contour-pins s f) (contours-pins l (simplifyContour L tolerance s f))
-
   pub simplify-pins : (t : List ℕ) → PinsStay t (simplifyOf L tolerance t .table)
   simplify-pins t = by (firstNo (keptQuestions L t)) refl
     where
       by : (answer : Answer) → firstNo (keptQuestions L t) ≡ answer → PinsStay t (simplifyOf L tolerance t .table)
-      by Yes e = rw (outcome-is L t tolerance Yes e, simplify-is L tolerance t) (contours-pins (firstSticks L) (begun t))
+      by Yes e =
+          rw (outcome-is L t tolerance Yes e, simplify-is L tolerance t)
+          (pins-fold (λ s. s .table) (simplifyContour L tolerance) contour-pins (firstSticks L) (begun t))
       by (No q place) e = rw (outcome-is L t tolerance (No q place) e) pins-same

@@ -1,6 +1,6 @@
 -- An exact half never occurs in a smoothing step: 4·v would be an odd whole number, and the segment between vertices of other sides of the two
--- cells beside a stick meets it at no such v. So Smooth is the same with the paper's "a half upward" (specs/Former), and the paper's rule the same
--- with Note 2's rounding.
+-- cells beside a stick meets it at no such v. So Smooth is the same with the paper's "a half upward" (specs/Former), and the paper's rule, with
+-- pins skipped, the same with Note 2's rounding.
 use mathlib.Core.Path.{_≡_, refl, sym, _∙_, ap}
 use mathlib.Core.Bool.{true}
 use mathlib.Core.List.{List, [], _∷_, foldl}

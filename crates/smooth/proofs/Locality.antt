@@ -79,8 +79,8 @@ module _ (L : Layer) (sound : Sound L) where
           let same = same-pin L f a e on in
           both-sides (pinnedAt L (s .table) e)
           (λ pin. rw (visit-skips L s e pin, visit-skips L r e (sym same ∙ pin)) (a, omega arith))
-          (λ free.
-          rw (visit-slides L s e free, visit-slides L r e (sym same ∙ free)) (
+          (λ unpinned.
+          rw (visit-slides L s e unpinned, visit-slides L r e (sym same ∙ unpinned)) (
             stored-agree L sound f stick a e on _ _ (same-smoothed a e on),
             omega (arith, same-offset L f a e on, same-smoothed a e on),
           ))

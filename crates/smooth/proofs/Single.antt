@@ -1,5 +1,5 @@
 -- "Single-contour cases are unchanged, and a layer without contours answers as before" (Note 3): there the whole layer is one contour, or nothing,
--- so the paper's rule (specs/Former) and Smooth are the same, the table and the answer, whatever is lent.
+-- so the paper's rule, with pins skipped (specs/Former), and Smooth are the same, the table and the answer, whatever is lent.
 use mathlib.Core.Path.{_≡_, refl, sym, _∙_, ap}
 use mathlib.Core.List.{List, [], _∷_, _++_, map, foldl, flatten, append-nil}
 use Prim.Native.Nat.{ℕ, _≤_, max, _+_}

@@ -45,35 +45,33 @@ module _ (L : Layer) (s : Pass) (e : Edge) where
 
   pub visit-slides : pinnedAt L (s .table) e ≡ false → visit L s e ≡ slidTo
   unfolding visit
-  visit-slides free = ap (λ (b : Bool). cond b s slidTo) free
+  visit-slides unpinned = ap (λ (b : Bool). cond b s slidTo) unpinned
 
   -- so what holds of what is left in either case holds of the step
-  visit-either : (P : Pass → Type 0) → P s → P slidTo → P (visit L s e)
+  visit-either : (P : Pass → Type 0) → P s → (pinnedAt L (s .table) e ≡ false → P slidTo) → P (visit L s e)
   visit-either P skipped moved = both-sides (pinnedAt L (s .table) e)
       (λ pin. subst P (sym (visit-skips pin)) skipped)
-      (λ free. subst P (sym (visit-slides free)) moved)
+      (λ unpinned. subst P (sym (visit-slides unpinned)) (moved unpinned))
 
   -- a total only grows
   pub visit-more : s .total ≤ visit L s e .total
-  visit-more = visit-either (λ r. s .total ≤ r .total) (omega arith) (omega arith)
+  visit-more = visit-either (λ r. s .total ≤ r .total) (omega arith) (λ unpinned. omega arith)
 
   -- it changes no other entry
   pub visit-elsewhere : (k : ℕ) → k ≢ number (L .size) e → getD (visit L s e .table) k 0 ≡ getD (s .table) k 0
   visit-elsewhere k other =
       visit-either (λ r. getD (r .table) k 0 ≡ getD (s .table) k 0) refl
-      (store-elsewhere L (s .table) e (Kept (smoothedAt L (s .table) e)) k other)
+      (λ unpinned. store-elsewhere L (s .table) e (Kept (smoothedAt L (s .table) e)) k other)
 
   pub visit-length : length (visit L s e .table) ≡ length (s .table)
   visit-length =
-      visit-either (λ r. length (r .table) ≡ length (s .table)) refl (store-length L (s .table) e (Kept (smoothedAt L (s .table) e)))
+      visit-either (λ r. length (r .table) ≡ length (s .table)) refl
+      (λ unpinned. store-length L (s .table) e (Kept (smoothedAt L (s .table) e)))
 
   -- and no pinned one
   pub visit-pins : PinsStay (s .table) (visit L s e .table)
-  visit-pins = both-sides (pinnedAt L (s .table) e)
-      (λ pin. subst (λ (r : Pass). PinsStay (s .table) (r .table)) (sym (visit-skips pin)) pins-same)
-      (λ free.
-      subst (λ (r : Pass). PinsStay (s .table) (r .table)) (sym (visit-slides free))
-      (store-pins L (s .table) e (Kept (smoothedAt L (s .table) e)) free))
+  visit-pins =
+      visit-either (λ r. PinsStay (s .table) (r .table)) pins-same (store-pins L (s .table) e (Kept (smoothedAt L (s .table) e)))
 
 module _ {L : Layer} (sound : Sound L) where
   -- the neighbours of a stick in a table whose vertices are all kept
@@ -136,10 +134,11 @@ module _ {L : Layer} (sound : Sound L) where
     pub visit-kept : AllKept L (visit L s e .table)
     visit-kept =
         visit-either L s e (λ r. AllKept L (r .table)) kept
-        (store-all-kept L sound (s .table) (kept .whole) e stick (Kept (smoothedAt L (s .table) e)) (smoothed-inside kept e stick) refl kept)
+        (λ unpinned.
+        store-all-kept L sound (s .table) (kept .whole) e stick (Kept (smoothedAt L (s .table) e)) (smoothed-inside kept e stick) refl kept)
 
     -- the change is at most 254
     pub visit-total : visit L s e .total ≤ s .total + 254
     visit-total =
         visit-either L s e (λ r. r .total ≤ s .total + 254) (omega arith)
-        (omega (arith, offset-inside L (s .table) kept e stick, smoothed-inside kept e stick))
+        (λ unpinned. omega (arith, offset-inside L (s .table) kept e stick, smoothed-inside kept e stick))

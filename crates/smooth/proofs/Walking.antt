@@ -33,7 +33,7 @@ use Rattle.drawn.specs.Drawn.{vertex}
 use Rattle.drawn.proofs.Runs.{in-grid-near}
 use Rattle.offset.specs.Offset.{newOffset}
 use Rattle.smooth.specs.Smooth.{smoothedAt, Pass, passed, visit, passContour, contourPass, Smoothable}
-use Rattle.smooth.specs.Visit.{offsetOf, pinIn, Visitable, Visited, PassMade}
+use Rattle.smooth.specs.Visit.{offsetOf, pinnedOf, Visitable, Visited, PassMade}
 use Rattle.smooth.specs.declared.pass.Stepped.{Stepped}
 use Rattle.smooth.proofs.Steps.{visit-skips, visit-slides, visit-more, visit-kept, slid-here, neighbours-around}
 
@@ -63,9 +63,9 @@ module _ {L : Layer} {t : List ℕ} {e : Edge} (given : LentAt L t e) where
     unfolding offsetAt
     offset-is = ap (offsetOf t) k-is
 
-    pin-is : pinIn t k ≡ pinnedAt L t e
+    pin-is : pinnedOf t k ≡ pinnedAt L t e
     unfolding pinnedAt
-    pin-is = ap (pinIn t) k-is
+    pin-is = ap (pinnedOf t) k-is
 
 -- sticks are told apart by their numbers
 module _ (L : Layer) (sound : Sound L) (x f : Edge) (one : isStick L x ≡ true) (other : isStick L f ≡ true) where
@@ -88,19 +88,19 @@ visit-grows L f e s = visits-grow L (path (walkOf L) (edgeCount (L .size)) (next
 
 -- the step as the code takes it: a pinned vertex is skipped, any other is slid
 module _ {t : List ℕ} {k : ℕ} {p q : Position} {e : Edge} where
-  pub visited-skips : {o : ℕ} → pinIn t k ≡ true → o ≡ offsetOf t k → Visited t k p q e (record { offset = o; change = 0 }) t
+  pub visited-skips : {o : ℕ} → pinnedOf t k ≡ true → o ≡ offsetOf t k → Visited t k p q e (record { offset = o; change = 0 }) t
   visited-skips {o} pin old = record {
     offset = old ∙ sym (ap (λ (b : Bool). cond b (offsetOf t k) (newOffset p q e (offsetOf t k))) pin);
     change = omega (arith, old);
     table = sym (ap (λ (b : Bool). cond b t (set t k (encoded (Kept o)))) pin);
   }
 
-  pub visited-slides : {o n : ℕ} {t′ : List ℕ} → pinIn t k ≡ false → o ≡ newOffset p q e (offsetOf t k) → n ≡ distance (offsetOf t k) o
+  pub visited-slides : {o n : ℕ} {t′ : List ℕ} → pinnedOf t k ≡ false → o ≡ newOffset p q e (offsetOf t k) → n ≡ distance (offsetOf t k) o
       → t′ ≡ set t k (encoded (Kept o)) → Visited t k p q e (record { offset = o; change = n }) t′
-  visited-slides {o} free new change stored = record {
-    offset = new ∙ sym (ap (λ (b : Bool). cond b (offsetOf t k) (newOffset p q e (offsetOf t k))) free);
+  visited-slides {o} unpinned new change stored = record {
+    offset = new ∙ sym (ap (λ (b : Bool). cond b (offsetOf t k) (newOffset p q e (offsetOf t k))) unpinned);
     change = change;
-    table = stored ∙ sym (ap (λ (b : Bool). cond b t (set t k (encoded (Kept o)))) free);
+    table = stored ∙ sym (ap (λ (b : Bool). cond b t (set t k (encoded (Kept o)))) unpinned);
   }
 
 -- what the code finds before the step at e: the next stick, the place of its entry, and its vertex
@@ -184,27 +184,27 @@ module _ {L : Layer} (sound : Sound L) {f e : Edge} {t₀ t : List ℕ} {k n v :
         as-found : t′ ≡ t
         as-found = rw (pin-is visits-here (g .place-is) ∙ pin) at (step .table)
 
-        same-offset : r .offset ≡ offsetOf t k
-        same-offset = rw (pin-is visits-here (g .place-is) ∙ pin) at (step .offset)
+        offset-stays : r .offset ≡ offsetOf t k
+        offset-stays = rw (pin-is visits-here (g .place-is) ∙ pin) at (step .offset)
 
         skips : passed t′ (n + r .change) ≡ visit L (passed t n) e
         skips =
-            let none : n + r .change ≡ n = omega (arith, step .change, same-offset) in
+            let none : n + r .change ≡ n = omega (arith, step .change, offset-stays) in
             (λ i. passed (as-found i) (none i)) ∙ sym (visit-skips L (passed t n) e pin)
 
       -- and of any other, which it slides
-      module _ (free : pinnedAt L t e ≡ false) where
+      module _ (unpinned : pinnedAt L t e ≡ false) where
         smoothed : r .offset ≡ smoothedAt L t e
         smoothed =
-            let new : r .offset ≡ newOffset p q e (offsetOf t k) = rw (pin-is visits-here (g .place-is) ∙ free) at (step .offset) in
+            let new : r .offset ≡ newOffset p q e (offsetOf t k) = rw (pin-is visits-here (g .place-is) ∙ unpinned) at (step .offset) in
             new ∙ (λ i. newOffset (g .p-is i) (next-is i) e (old-is i))
 
         slides : passed t′ (n + r .change) ≡ visit L (passed t n) e
         slides =
-            let stored : t′ ≡ set t k (encoded (Kept (r .offset))) = rw (pin-is visits-here (g .place-is) ∙ free) at (step .table) in
+            let stored : t′ ≡ set t k (encoded (Kept (r .offset))) = rw (pin-is visits-here (g .place-is) ∙ unpinned) at (step .table) in
             let slid = stored ∙ (λ i. set t (g .place-is i) (encoded (Kept (smoothed i)))) in
             let change = step .change ∙ (λ i. distance (old-is i) (smoothed i)) in
-            (λ i. passed (slid i) (n + change i)) ∙ sym (visit-slides L (passed t n) e free)
+            (λ i. passed (slid i) (n + change i)) ∙ sym (visit-slides L (passed t n) e unpinned)
 
       step-is : passed t′ (n + r .change) ≡ visit L (passed t n) e
       step-is = both-sides (pinnedAt L t e) skips slides
@@ -216,10 +216,10 @@ module _ {L : Layer} (sound : Sound L) {f e : Edge} {t₀ t : List ℕ} {k n v :
       -- the offset after the step is in the table
       new-there : r .offset ≡ offsetAt L t′ e
       new-there = both-sides (pinnedAt L t e)
-          (λ pin. same-offset pin ∙ old-is ∙ sym (ap (λ (u : List ℕ). offsetAt L u e) (as-found pin)))
-          (λ free.
-          smoothed free ∙ sym (slid-here sound (passed t n) (g .kept) e (visits-here .stick))
-          ∙ sym (ap (λ (s : Pass). offsetAt L (s .table) e) (step-is ∙ visit-slides L (passed t n) e free)))
+          (λ pin. offset-stays pin ∙ old-is ∙ sym (ap (λ (u : List ℕ). offsetAt L u e) (as-found pin)))
+          (λ unpinned.
+          smoothed unpinned ∙ sym (slid-here sound (passed t n) (g .kept) e (visits-here .stick))
+          ∙ sym (ap (λ (s : Pass). offsetAt L (s .table) e) (step-is ∙ visit-slides L (passed t n) e unpinned)))
 
       pub total-within : n + r .change ≤ contourPass L f t₀ .total
       total-within =

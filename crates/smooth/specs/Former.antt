@@ -1,5 +1,6 @@
 -- The rule that Notes 2 and 3 replace. On a table without pins `formerOf` is Smooth as the paper has it: "a half upward", and settled by the total
--- "taken over the layer"; pinned vertices it skips as Smooth does (Note 5). On a layer with one contour, or none, it gives the answer and the table of Smooth, whatever is lent (proofs/Single.antt).
+-- "taken over the layer"; pinned vertices it skips as Smooth does (Note 5). On a layer with one contour, or none, it gives the answer and the table of
+-- Smooth, whatever is lent (proofs/Single.antt).
 -- `upwardOf` never was the rule: it is Smooth, settled contour by contour, with nothing but the half as in the paper. No layer, limit or table tells
 -- it from Smooth (proofs/Halves.antt).
 use mathlib.Core.List.{List, foldl}

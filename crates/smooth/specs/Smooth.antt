@@ -34,12 +34,13 @@ pub record Pass : Type 0 where
 abbrev pub passed : List ℕ → ℕ → Pass
 passed t n = record { table = t; total = n }
 
--- the step at one vertex, to its new offset. "Smooth skips pinned vertices: they add 0 to the total" (Note 5)
+-- the step at one vertex, to the offset `new`. "Smooth skips pinned vertices: they add 0 to the total" (Note 5)
 unfoldable pub stepTo : Layer → Pass → Edge → ℕ → Pass
 stepTo L s e new =
     cond (pinnedAt L (s .table) e) s
     (passed (slid L (s .table) e new) (s .total + distance (offsetAt L (s .table) e) new))
 
+-- by the rule's new offset
 unfoldable pub visit : Layer → Pass → Edge → Pass
 unfolding stepTo newOffset
 visit L s e = stepTo L s e (smoothedAt L (s .table) e)

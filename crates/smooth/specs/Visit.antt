@@ -23,8 +23,8 @@ use Rattle.smooth.specs.declared.settling.Settling.{Settling}
 abbrev pub offsetOf : List ℕ → ℕ → ℕ
 offsetOf t k = offsetIn (entryOf (getD t k 0))
 
-abbrev pub pinIn : List ℕ → ℕ → Bool
-pinIn t k = isPinned (entryOf (getD t k 0))
+abbrev pub pinnedOf : List ℕ → ℕ → Bool
+pinnedOf t k = isPinned (entryOf (getD t k 0))
 
 -- entry k is that of the vertex of e, whose neighbours are at p and q
 pub record Visitable (t : List ℕ) (k : ℕ) (p q : Position) (e : Edge) : Type 0 where
@@ -34,9 +34,9 @@ pub record Visitable (t : List ℕ) (k : ℕ) (p q : Position) (e : Edge) : Type
 
 -- the offset after the step, the change, and the table with that entry alone changed; for a pinned vertex offset and table stay and the change is 0
 pub record Visited (t : List ℕ) (k : ℕ) (p q : Position) (e : Edge) (r : Stepped) (t′ : List ℕ) : Type 0 where
-  pub offset : r .offset ≡ cond (pinIn t k) (offsetOf t k) (newOffset p q e (offsetOf t k))
+  pub offset : r .offset ≡ cond (pinnedOf t k) (offsetOf t k) (newOffset p q e (offsetOf t k))
   pub change : r .change ≡ distance (offsetOf t k) (r .offset)
-  pub table : t′ ≡ cond (pinIn t k) t (set t k (encoded (Kept (r .offset))))
+  pub table : t′ ≡ cond (pinnedOf t k) t (set t k (encoded (Kept (r .offset))))
 
 -- a pass over the contour from f on, made on t: the table and the total, and how many vertices it visited
 pub record PassMade (L : Layer) (t : List ℕ) (f : Edge) (r : PassCounts) (t′ : List ℕ) : Type 0 where

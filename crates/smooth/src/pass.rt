@@ -18,7 +18,7 @@ ghost use Rattle.chord.specs.Crossing.{distance};
 ghost use Rattle.smooth.specs.Smooth.{SmoothableAt};
 ghost use Rattle.smooth.specs.Visit.{Visitable, Visited, PassMade};
 
-// What a step gives: the new offset, and the absolute change.
+// What a step gives: the offset after it, and the absolute change.
 struct Stepped {
     offset: u8,
     change: usize,

@@ -2,7 +2,7 @@
 use mathlib.Core.Path.{_≡_, refl, sym, subst, _∙_, ap}
 use mathlib.Core.Logic.{_≢_}
 use mathlib.Core.Bool.{true, false, true≢false}
-use mathlib.Core.List.{List}
+use mathlib.Core.List.{List, [], _∷_, foldl}
 use Prim.Native.Nat.{ℕ}
 use lib.ListN.{getD, set}
 use lib.Seq.{set-getD}
@@ -30,15 +30,21 @@ pins-then one other = record {
       other .same-entry k (ap (λ (n : ℕ). isPinned (entryOf n)) same ∙ pin) ∙ same;
 }
 
+-- work done for one element of a list after the other, on something that has a table
+pub pins-fold : {S A : Type 0} (table : S → List ℕ) (work : S → A → S) → ((s : S) (x : A) → PinsStay (table s) (table (work s x)))
+    → (l : List A) (s : S) → PinsStay (table s) (table (foldl work s l))
+pins-fold table work each [] s = pins-same
+pins-fold table work each (x ∷ l) s = pins-then (each s x) (pins-fold table work each l (work s x))
+
 module _ (L : Layer) (t : List ℕ) (e : Edge) where
   -- a vertex that is not pinned has no pinned entry
   pub other-entry : pinnedAt L t e ≡ false → (k : ℕ) → isPinned (entryOf (getD t k 0)) ≡ true → k ≢ number (L .size) e
   unfolding pinnedAt
-  other-entry free k pin q = true≢false (sym pin ∙ ap (λ (n : ℕ). isPinned (entryOf (getD t n 0))) q ∙ free)
+  other-entry unpinned k pin q = true≢false (sym pin ∙ ap (λ (n : ℕ). isPinned (entryOf (getD t n 0))) q ∙ unpinned)
 
   -- whatever is stored there
   pub store-pins : (x : Entry) → pinnedAt L t e ≡ false → PinsStay t (store (L .size) t e x)
-  store-pins x free = record { same-entry = λ k pin. store-elsewhere L t e x k (other-entry free k pin) }
+  store-pins x unpinned = record { same-entry = λ k pin. store-elsewhere L t e x k (other-entry unpinned k pin) }
 
   -- the number of a pinned vertex is that of its offset, pinned
   pin-number : pinnedAt L t e ≡ true → encoded (Pinned (offsetAt L t e)) ≡ getD t (number (L .size) e) 0
@@ -54,4 +60,4 @@ module _ (L : Layer) (t : List ℕ) (e : Edge) where
   pub pin-pins : PinsStay t (pinned L t e)
   pin-pins = both-sides (pinnedAt L t e)
       (λ pin. subst (PinsStay t) (sym (pin-again pin)) pins-same)
-      (λ free. store-pins (Pinned (offsetAt L t e)) free)
+      (λ unpinned. store-pins (Pinned (offsetAt L t e)) unpinned)

@@ -1,4 +1,5 @@
--- Question 15, by the entries alone: it is put after question 6 was answered yes, so each stick's entry is kept, pinned or not, or removed.
+-- Question 15, by the entries alone: it is put after question 6 was answered yes, so each stick's entry is
+-- that of a kept vertex, pinned or not, or of a removed one.
 use mathlib.Core.Bool.{Bool}
 use mathlib.Core.List.{List}
 use Prim.Native.Nat.{ℕ}

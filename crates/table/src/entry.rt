@@ -4,7 +4,8 @@ ghost use mathlib.Core.Bool.{true};
 ghost use Rattle.table.specs.Entries.{entryOf, encoded, suits, wrong};
 ghost use Rattle.table.specs.Vertices.{isPinned, offsetIn};
 
-// What an entry says of its edge: no stick, a vertex at an offset, kept, removed, or kept and pinned, or a number that no entry may have.
+// What an entry says of its edge: no stick, a vertex at an offset, kept, removed, or kept and pinned, or a number that no entry may have. `Kept`
+// is not pinned; `is_kept` says yes of both.
 pub enum Entry {
     Nothing,
     Kept(u8),

@@ -4,7 +4,7 @@ use mathlib.Core.Bool.{true, true≢false}
 use borrow.Author.Needs.{needs}
 use Rattle.grid.specs.Layer.{layerOf}
 use Rattle.edit.specs.Edits.{mayMove}
-use Rattle.edit.proofs.Asked.{yes-of, no-of, editable, named-entry, pinned-no, free-yes, removal-pinned, removal-missed, removal-far, removal-done, removal-third-left}
+use Rattle.edit.proofs.Asked.{yes-of, no-of, editable, named-entry, pinned-no, unpinned-yes, removal-pinned, removal-missed, removal-far, removal-done, removal-third-left}
 use Rattle.edit.proofs.edit.ask_removal.Statement.{statement}
 use Rattle.edit.proofs.edit.ask_removal.Tie as tie
 
@@ -12,7 +12,7 @@ abbrev start : tie.After-carries-pin → tie.Start
 start c = c .before .before .before
 
 unpinned : (k : tie.Else1) → let a = start (k .before) .args in mayMove (layerOf (a .size) (a .bitmap .now)) (a .table .now) (a .stick) ≡ true
-unpinned k = free-yes _ _ (start (k .before) .args .stick) (k .before .carries-pin .ensures) (k .if1 .left)
+unpinned k = unpinned-yes _ _ (start (k .before) .args .stick) (k .before .carries-pin .ensures) (k .if1 .left)
 
 abbrev given : tie.After-joined → tie.Start
 given laid = start (laid .before .before .before)

@@ -6,7 +6,7 @@ use borrow.Author.Needs.{needs}
 use Rattle.grid.specs.Layer.{layerOf}
 use Rattle.edit.specs.Edits.{mayMove}
 use Rattle.edit.specs.Chords.{Slidable}
-use Rattle.edit.proofs.Asked.{editable, named-entry, pinned-no, free-yes, good-offset, slide-pinned, slide-bad, slide-asked}
+use Rattle.edit.proofs.Asked.{editable, named-entry, pinned-no, unpinned-yes, good-offset, slide-pinned, slide-bad, slide-asked}
 use Rattle.edit.proofs.edit.ask_slide.Statement.{statement}
 use Rattle.edit.proofs.edit.ask_slide.Tie as tie
 
@@ -14,7 +14,7 @@ abbrev start : tie.After-carries-pin → tie.Start
 start c = c .before .before .before
 
 unpinned : (k : tie.Else1) → let a = start (k .before) .args in mayMove (layerOf (a .size) (a .bitmap .now)) (a .table .now) (a .stick) ≡ true
-unpinned k = free-yes _ _ (start (k .before) .args .stick) (k .before .carries-pin .ensures) (k .if1 .left)
+unpinned k = unpinned-yes _ _ (start (k .before) .args .stick) (k .before .carries-pin .ensures) (k .if1 .left)
 
 -- the named vertex may be slid to the offset
 here : (k : tie.After-edge-named)
@@ -45,10 +45,10 @@ ask-chords-requires c κs =
 returns-3 : tie.Need-returns-3
 returns-3 c =
     let named = c .before .before .before in
-    let free = named .before .before in
-    let s = start (free .before) in
+    let asked = named .before .before in
+    let s = start (asked .before) in
     c .ask-chords .ensures
-    ∙ slide-asked (s .args .t) (s .args .place) (s .pre) (s .args .offset) (unpinned free) (named .edge-named .ensures) (here named)
+    ∙ slide-asked (s .args .t) (s .args .place) (s .pre) (s .args .offset) (unpinned asked) (named .edge-named .ensures) (here named)
     (c .before .before .slid-into .ensures .0) (c .before .slid-out .ensures .0)
 
 pub ask-slide-spec : {M : Type 1} → statement M

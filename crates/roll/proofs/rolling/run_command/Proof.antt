@@ -36,7 +36,7 @@ returns-3 : tie.Need-returns-3
 returns-3 c =
     let arm = c .before .before .before .before in
     let start = arm .before .before .before .before .before in
-    c .before .before .pin-at .ensures ∙ pin-here (start .pre) (start .args .t) (arm .match .keys3)
+    c .before .before .pin-at .ensures (start .args .bitmap .now) ∙ pin-here (start .pre) (start .args .t) (arm .match .keys3)
 
 returns-4 : tie.Need-returns-4
 returns-4 c =

@@ -28,14 +28,14 @@ slides start =
     let a = start .args in
     slidesWithin (a .t) (a .p) (a .q) (a .u) (offsetAt (layerOf (a .size) (a .bitmap .now)) (a .table .now) (a .u))
 
-abbrev free : tie.Start → Bool
-free start = let a = start .args in not (pinnedAt (layerOf (a .size) (a .bitmap .now)) (a .table .now) (a .u))
+abbrev unpinned : tie.Start → Bool
+unpinned start = let a = start .args in not (pinnedAt (layerOf (a .size) (a .bitmap .now)) (a .table .now) (a .u))
 
 returns : tie.Need-returns
 returns c =
     let start = c .before .before .before .before in
     let no : crossed start ≡ false = sym (c .before .crosses-stick .ensures) ∙ not-true _ (c .if1 .taken) in
-    sym (ap (λ (b : Bool). b && slides start && free start) no)
+    sym (ap (λ (b : Bool). b && slides start && unpinned start) no)
 
 -- the first test is passed, and what the second says
 after : (c : tie.After-slides-within) → let start = c .before .before .before .before .before .before .before in
@@ -53,7 +53,7 @@ after c =
 returns-2 : tie.Need-returns-2
 returns-2 c =
     let start = c .before .before .before .before .before .before .before .before in
-    sym (ap (λ (b : Bool). b && free start) (after (c .before) ∙ not-true _ (c .if2 .taken)))
+    sym (ap (λ (b : Bool). b && unpinned start) (after (c .before) ∙ not-true _ (c .if2 .taken)))
 
 returns-3 : tie.Need-returns-3
 unfolding pinnedAt
@@ -62,7 +62,7 @@ returns-3 c =
     let read = slid .before .before in
     let start = read .before .before .before .before .before in
     ap not (c .is-pinned .ensures ∙ ap isPinned (read .entry-at .ensures))
-    ∙ sym (ap (λ (b : Bool). b && free start) (after slid ∙ not-false _ (c .before .if2 .left)))
+    ∙ sym (ap (λ (b : Bool). b && unpinned start) (after slid ∙ not-false _ (c .before .if2 .left)))
 
 pub chord-passes-spec : {M : Type 1} → statement M
 chord-passes-spec =

@@ -22,12 +22,12 @@ new-offset-requires c κs =
 returns-2 : tie.Need-returns-2
 returns-2 c =
     let moved = c .before .before in
-    let free = moved .before in
-    let found = free .before .before in
+    let asked = moved .before in
+    let found = asked .before .before in
     let a = found .before .before .before .args in
     let old = found .offset-of .ensures in
     let new = moved .new-offset in
-    visited-slides (sym (free .before .has-pin .ensures) ∙ free .if1 .left)
+    visited-slides (sym (asked .before .has-pin .ensures) ∙ asked .if1 .left)
     (new .ensures ∙ ap (newOffset (a .p) (a .q) (a .e)) old)
     (c .change-of .ensures ∙ ap (λ (n : ℕ). distance n (new .result)) old)
     (ap (set (a .table .now) (a .at)) (c .before .encoded-of .ensures))
