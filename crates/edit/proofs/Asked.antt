@@ -62,7 +62,7 @@ kept-if {t} t′ e = sym (ap (λ (x : Answer). storedIf x t t′) e)
 
 -- question 9
 
-pub names-kept : (L : Layer) (t : List ℕ) (s : Named) → namesKept (L .size) t s ≡ carriesKept L t s
+names-kept : (L : Layer) (t : List ℕ) (s : Named) → namesKept (L .size) t s ≡ carriesKept L t s
 unfolding keptAt
 names-kept L t s = refl
 
@@ -86,8 +86,11 @@ module _ (L : Layer) (t : List ℕ) (s : Named) {b : Bool} (is : b ≡ namesKept
   pub not-kept : not b ≡ true → carriesKept L t s ≡ false
   not-kept h = sym (names-kept L t s) ∙ no-of is h
 
+  pub is-kept : not b ≡ false → carriesKept L t s ≡ true
+  is-kept h = sym (names-kept L t s) ∙ yes-of is h
+
   pub named-kept : Accepted L t → not b ≡ false → NamedKept L t s
-  named-kept accepted h = record { accepted = accepted; kept = sym (names-kept L t s) ∙ yes-of is h }
+  named-kept accepted h = record { accepted = accepted; kept = is-kept h }
 
 -- question 16
 

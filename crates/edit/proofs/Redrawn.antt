@@ -6,23 +6,20 @@ use mathlib.Core.Bool.{true, false}
 use mathlib.Core.List.{List}
 use Prim.Native.Nat.{ℕ, _+_, _≤_}
 use native.Mathlib.Omega.{arith}
-use borrow.Author.Tests.{leb-true, not-false}
+use borrow.Author.Tests.{leb-true}
 use lib.Dec.{leb}
 use lib.ListN.{length}
 use Rattle.arith.proofs.Booleans.{and-split}
 use Rattle.grid.specs.Layer.{Layer}
-use Rattle.grid.specs.Edges.{isStick, inGrid, number, edgeCount}
+use Rattle.grid.specs.Edges.{isStick, inGrid}
 use Rattle.grid.specs.Questions.{Sound}
 use Rattle.grid.specs.declared.edge.Edge.{Edge}
-use Rattle.grid.specs.declared.question.Refusal.the-variants.{WrongEntry}
-use Rattle.grid.proofs.Answers.{each-all}
-use Rattle.grid.proofs.Numbers.{number-below, edgeAt-number, edges-small}
+use Rattle.grid.proofs.Numbers.{edges-small}
 use Rattle.chord.specs.Points.{Position, position}
 use Rattle.chord.specs.Crossing.{along}
 use Rattle.chord.specs.Runs.{NearEdge}
 use Rattle.chord.proofs.EdgePoints.{along-position}
 use Rattle.chord.proofs.Tests.{stick-near}
-use Rattle.table.specs.Entries.{suits, wrongAt, entriesAnswer}
 use Rattle.table.specs.Vertices.{entryAt, keptAt, removedAt, offsetAt}
 use Rattle.table.specs.Lent.{LentAt, HasEntry}
 use Rattle.table.proofs.Entries.{Inside, kept-on-stick}
@@ -31,7 +28,7 @@ use Rattle.table.specs.Stores.{slid, without, pinned}
 use Rattle.drawn.specs.Neighbours.{gapAfter, gapBefore, nextKept, previousKept}
 use Rattle.drawn.proofs.Gaps.{not-both, kept-not-removed}
 use Rattle.drawn.specs.Drawn.{vertex, edgeCrosses, Drawn}
-use Rattle.drawn.proofs.Vertices.{Vertices, vertices-of}
+use Rattle.drawn.proofs.Vertices.{Vertices, vertices-of, edge-suits}
 use Rattle.drawn.proofs.Owners.{end-drawn}
 use Rattle.drawn.proofs.Neighbours.{next-previous, previous-drawn}
 use Rattle.drawn.proofs.SideLemma.{not-one}
@@ -66,15 +63,10 @@ module _ {L : Layer} {t : List ℕ} (accepted : Accepted L t) where
 
   -- an edge of the grid with a kept vertex is a stick
   pub kept-stick : (e : Edge) → inGrid (L .size) e ≡ true → keptAt L t e ≡ true → Drawn L t e
-  unfolding entriesAnswer keptAt
+  unfolding keptAt
   kept-stick e inside kept =
-      let sized = accepted .sound .whole .sized in
-      let k = number (L .size) e in
-      let fits = not-false _ (each-all WrongEntry (wrongAt L t) (edgeCount (L .size)) (accepted .entries) k
-      (number-below (L .size) sized e inside)) in
-      let here : suits (isStick L e) (entryAt L t e) ≡ true =
-      ap (λ (b : Edge). suits (isStick L b) (entryAt L t e)) (sym (edgeAt-number (L .size) sized e inside)) ∙ fits in
-      record { stick = kept-on-stick (isStick L e) (entryAt L t e) here kept; kept = kept }
+      let fits = edge-suits L t (accepted .sound) (accepted .entries) e inside in
+      record { stick = kept-on-stick (isStick L e) (entryAt L t e) fits kept; kept = kept }
 
 -- A vertex that an edit may be tried on
 

@@ -6,15 +6,17 @@ use Rattle.grid.specs.declared.edge.Edge.{Edge}
 use Rattle.table.specs.Vertices.{offsetAt}
 use Rattle.table.specs.Stores.{pinned}
 use Rattle.table.specs.Lent.{HasEntry}
-use Rattle.edit.proofs.Asked.{names-kept, yes-of, no-of, in-table, pin-none, pin-done}
+use Rattle.edit.proofs.Asked.{yes-of, not-kept, is-kept, in-table, pin-none, pin-done}
 use Rattle.edit.proofs.edit.pin.Statement.{statement}
 use Rattle.edit.proofs.edit.pin.Tie as tie
 
 returns : tie.Need-returns
 returns c =
     let a = c .before .before .before .before .args in
-    let none = no-of (c .before .carries-kept .ensures) (c .if1 .taken) in (
-      λ bitmap. let L = layerOf (a .size) bitmap in pin-none L (a .table .now) (a .place) (a .stick) (sym (names-kept L (a .table .now) (a .stick)) ∙ none),
+    let told = c .before .carries-kept .ensures in (
+      λ bitmap.
+          let L = layerOf (a .size) bitmap in
+          pin-none L (a .table .now) (a .place) (a .stick) (not-kept L (a .table .now) (a .stick) told (c .if1 .taken)),
       λ bitmap. refl,
     )
 
@@ -29,10 +31,12 @@ returns-2 : tie.Need-returns-2
 unfolding offsetAt
 returns-2 c =
     let stored = c .before .before in
-    let kept = stored .before .before .before in
-    let a = kept .before .before .before .before .args in
-    let some = yes-of (kept .before .carries-kept .ensures) (kept .if1 .left) in (
-      λ bitmap. let L = layerOf (a .size) bitmap in pin-done L (a .table .now) (a .place) (a .stick) (sym (names-kept L (a .table .now) (a .stick)) ∙ some),
+    let asked = stored .before .before .before in
+    let a = asked .before .before .before .before .args in (
+      λ bitmap.
+          let L = layerOf (a .size) bitmap in
+          pin-done L (a .table .now) (a .place) (a .stick)
+          (is-kept L (a .table .now) (a .stick) (asked .before .carries-kept .ensures) (asked .if1 .left)),
       λ bitmap.
           stored .pin .ensures ∙ ap (λ (e : Edge). pinned (layerOf (a .size) bitmap) (a .table .now) e) (stored .before .edge-named .ensures),
     )
