@@ -1,0 +1,38 @@
+-- A polygon that has one vertex on every stick of a contour, in walk order, and what the contour encloses. Coordinates are whole numbers at a
+-- pitch G of the grid, so that a vertex on the edge e lies at an offset o e of it, strictly between 0 and G.
+use mathlib.Core.Bool.{cond}
+use Prim.Native.Nat.{ℕ, _+_, _*_, _≤_}
+use Rattle.arith.specs.Booleans.{asNumber}
+use Rattle.arith.specs.Finite.{sum}
+use Rattle.arith.specs.Levels.{total}
+use Rattle.grid.specs.Layer.{Layer}
+use Rattle.grid.specs.declared.edge.Edge.{Edge}
+use Rattle.step.specs.Walk.{next}
+use Rattle.contour.specs.Contours.{contourOf}
+use Rattle.winding.specs.Turns.{around}
+
+-- the vertex on e
+abbrev pub xAt : ℕ → (Edge → ℕ) → Edge → ℕ
+xAt G o e = G * e .column + cond (e .vertical) 0 (o e)
+
+abbrev pub yAt : ℕ → (Edge → ℕ) → Edge → ℕ
+yAt G o e = G * e .row + cond (e .vertical) (o e) 0
+
+-- The polygon's edge from the stick e to the next adds its start's X times its end's Y to twice the signed area, and takes its end's X times its
+-- start's Y from it: the sums of both over the contour that starts at f.
+abbrev pub added : Layer → ℕ → (Edge → ℕ) → Edge → ℕ
+added L G o f = total (λ e. xAt G o e * yAt G o (next L e)) (contourOf L f)
+
+abbrev pub taken : Layer → ℕ → (Edge → ℕ) → Edge → ℕ
+taken L G o f = total (λ e. xAt G o (next L e) * yAt G o e) (contourOf L f)
+
+-- how many samples the contour is around
+unfoldable pub enclosed : Layer → Edge → ℕ
+enclosed L f = sum (λ r. sum (λ c. asNumber (around L f c r)) (L .size .width)) (L .size .height)
+
+-- More is more than less by twice an area at pitch G that is at least a half for each of n sticks, and differs by less than n/2 square pitches
+-- from N of them.
+pub record Encloses (G n N more less : ℕ) : Type 0 where
+  pub above : less + n ≤ more
+  pub least : 2 * (G * G * N) + less + n ≤ more + G * G * n
+  pub most : more + n ≤ 2 * (G * G * N) + less + G * G * n
