@@ -111,6 +111,10 @@ exact (s-back w s) t =
     let e = and-yes (ok s) (ltb (bound s) (2 ^ hbits w)) t in ap (λ z. toZ w (ofZ w z)) (exact s (e .0)) ∙ toZ-ofZ (pure-fits w s (e .1))
 exact (s-cast w n B h) t = toZ-pos w (omega (arith, ltb→lt B (2 ^ hbits w) t))
 
+-- a result with its size
+pub with-size : {r : ℤ} {B : ℕ} (z : ℤ) → r ≡ z → natAbs z ≤ B → (r ≡ z) × (natAbs r ≤ B)
+with-size z e h = (e, rw e h)
+
 -- m fits the width
 pub in-range : {w : Width} {z : ℤ} (s : Bounded z) → T (ok s && ltb (bound s) (2 ^ hbits w)) → SFits w z
 in-range {w} s t = let e = and-yes (ok s) (ltb (bound s) (2 ^ hbits w)) t in subst (SFits w) (sym (exact s (e .0))) (pure-fits w s (e .1))

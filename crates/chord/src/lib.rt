@@ -12,4 +12,5 @@ pub use position::along_of;
 pub use position::base_of;
 pub use position::line_of;
 pub use position::position_of;
+pub use position::signed;
 pub use run::crosses_run;

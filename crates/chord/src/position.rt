@@ -2,6 +2,7 @@
 use grid::Edge;
 ghost use mathlib.Core.Path.{_≡_};
 ghost use Prim.Native.Nat.{_≤_, _<_};
+ghost use lib.IntN.{pos, natAbs};
 ghost use Rattle.chord.specs.Points.{position};
 ghost use Rattle.chord.specs.Crossing.{along, across, base, line, distance, off};
 ghost use Rattle.chord.specs.Runs.{Near, NearEdge};
@@ -17,6 +18,15 @@ pub fn widen(x: u8) -> usize
     ensures { λ r. ⌜ r < 256 ⌝ }
 {
     x as usize
+}
+
+// A coordinate as a signed number.
+pub fn signed(n: usize) -> i64
+    requires { ⌜ n ≤ 262144 ⌝ }
+    ensures { λ r. ⌜ r ≡ pos n ⌝ }
+    ensures { λ r. ⌜ natAbs r ≤ 262144 ⌝ }
+{
+    n as i64
 }
 
 // The vertex at an offset of an edge.

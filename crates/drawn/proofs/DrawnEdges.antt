@@ -96,8 +96,8 @@ module _ (L : Layer) (t : List ℕ) (sound : Sound L) (f : Edge) (stick : isStic
   -- and if it has one, each begins where the one before ended, and the last ends where the first began.
   module _ (vertices : Vertices L t) (y : Edge) (on-y : OnContour (walkOf L) f y) (y-kept : keptAt L t y ≡ true) where
     -- the next kept vertex is the first from the next stick on
-    after : (x : Edge) → OnContour (walkOf L) f x → nextKept L t x ≡ keptFromHere L t (next L x)
-    after x on = both-sides (removedAt L t (next L x))
+    pub nextKept-from : (x : Edge) → OnContour (walkOf L) f x → nextKept L t x ≡ keptFromHere L t (next L x)
+    nextKept-from x on = both-sides (removedAt L t (next L x))
         (λ r. next-over L t sound vertices x y one to-y y-kept r ∙ skipped r)
         (λ r. next-here L t sound vertices x y one to-y y-kept r
         ∙ rw (kept-of L t sound vertices (next L x) (next-stick L sound x one) r .kept))
@@ -116,7 +116,7 @@ module _ (L : Layer) (t : List ℕ) (sound : Sound L) (f : Edge) (stick : isStic
     unfolding run ahead
     leads zero x on = refl
     leads (suc n) x on =
-        let later = rw (sym (after x on)) at (leads n (next L x) (on-next (walkOf L) (laws L sound) f x stick on)) in
+        let later = rw (sym (nextKept-from x on)) at (leads n (next L x) (on-next (walkOf L) (laws L sound) f x stick on)) in
         both-sides (keptAt L t x) (λ k. rw k (refl, later)) (λ k. rw k later)
 
     pub closes : Leads (keptFromHere L t f) (drawnOf L t f) (keptFromHere L t f)

@@ -51,10 +51,6 @@ unfolding floorDiv
 floor-size (pos a) m = div-le-self a m
 floor-size (negsuc a) m = omega (arith, div-le-self a m)
 
--- a result with its size
-pub with-size : {r : ℤ} {B : ℕ} (z : ℤ) → r ≡ z → natAbs z ≤ B → (r ≡ z) × (natAbs r ≤ B)
-with-size z e h = (e, rw e h)
-
 -- a test on a machine term
 pub test-exact : (test : ℤ → Bool) {z : ℤ} (s : Bounded z) → T (ok s) → {b : Bool} → test z ≡ b → test (pure s) ≡ b
 test-exact test s t e = sym (ap test (exact s t)) ∙ e

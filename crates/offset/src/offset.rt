@@ -5,6 +5,7 @@ use chord::across_of;
 use chord::along_of;
 use chord::base_of;
 use chord::line_of;
+use chord::signed;
 use grid::Edge;
 ghost use mathlib.Core.Path.{_≡_};
 ghost use Prim.Native.Nat.{_^_, _≤_};
@@ -34,15 +35,6 @@ fn nearest_div(n: i64, d: i64) -> i64
 {
     let less = if n > MIDDLE * d { 1 } else { 0 };
     floor_div(2 * n + d - less, 2 * d)
-}
-
-// A coordinate as a signed number.
-fn signed(n: usize) -> i64
-    requires { ⌜ n ≤ 262144 ⌝ }
-    ensures { λ r. ⌜ r ≡ pos n ⌝ }
-    ensures { λ r. ⌜ natAbs r ≤ 262144 ⌝ }
-{
-    n as i64
 }
 
 // How far q is from p across the line of e, with its sign.

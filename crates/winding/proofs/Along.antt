@@ -93,7 +93,7 @@ module _ {L : Layer} (sound : Sound L) (f : Edge) (is-first : first (walkOf L) f
     abbrev t : AtCorners
     t = record { sw = turns L f c r; se = turns L f (c + 1) r; nw = turns L f c (r + 1); ne = turns L f (c + 1) (r + 1) }
 
-    side-in : (s : Side) → inGrid (L .size) (edgeOn c r s) ≡ true
+    pub side-in : (s : Side) → inGrid (L .size) (edgeOn c r s) ≡ true
     side-in South = in-grid (L .size) (edgeOn c r South) (omega arith)
     side-in East = in-grid (L .size) (edgeOn c r East) (omega arith)
     side-in North = in-grid (L .size) (edgeOn c r North) (omega arith)

@@ -72,7 +72,7 @@ second-left false inside left h = (refl, refl)
 
 module _ {L : Layer} (sound : Sound L) where
   -- a cell that is entered by a stick with inside on the left is the one ahead of that stick
-  ahead-is : (p : CellSide) → isStick L (edgeOf p) ≡ true → insideLeft (corners L (p .column) (p .row)) (p .side) ≡ true → ahead L (edgeOf p) ≡ p
+  pub ahead-is : (p : CellSide) → isStick L (edgeOf p) ≡ true → insideLeft (corners L (p .column) (p .row)) (p .side) ≡ true → ahead L (edgeOf p) ≡ p
   ahead-is p stick left =
       let e : Edge = edgeOf p in
       let up : Bool·beq (upward L e) (isUpper (p .side)) ≡ true =
@@ -102,7 +102,7 @@ module _ {L : Layer} (sound : Sound L) where
         let stick = side-cut c r hc hr s ∙ h in
         sym (ap (λ (q : CellSide). isOn L f (edgeOf (link L q))) (ahead-is p stick left)) ∙ on-next sound f is-first (edgeOn c r s) stick
 
-    on-linked : (s : Side) → cut k s ≡ true → on (partner k s) ≡ on s
+    pub on-linked : (s : Side) → cut (corners L c r) s ≡ true → isOn L f (edgeOn c r (partner (corners L c r) s)) ≡ isOn L f (edgeOn c r s)
     on-linked s h =
         both-sides (insideLeft k s) (on-left s h)
         (λ right. sym (ap on (sym (partner-partner k s)) ∙ on-left (partner k s) (partner-cut k s ∙ h) (partner-turns k s h ∙ ap not right)))

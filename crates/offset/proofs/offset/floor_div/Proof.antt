@@ -7,8 +7,8 @@ use lib.Signed.{leZ}
 use mir.Syntax.{w64}
 use mir.Val.{toZ, ofZ}
 use Rattle.arith.specs.Nearest.{floorDiv}
-use Rattle.arith.proofs.Bounds.{sized, in-range, exact}
-use Rattle.offset.proofs.Division.{above-bits, floor-up, floor-down, floor-size, with-size, test-exact}
+use Rattle.arith.proofs.Bounds.{sized, in-range, exact, with-size}
+use Rattle.offset.proofs.Division.{above-bits, floor-up, floor-down, floor-size, test-exact}
 use Rattle.offset.proofs.offset.floor_div.Statement.{statement}
 use Rattle.offset.proofs.offset.floor_div.Tie as tie
 

@@ -6,9 +6,9 @@ use lib.IntN.{pos, natAbs}
 use lib.Signed.{ltZ}
 use mir.Syntax.{w64}
 use mir.Val.{toZ, ofZ}
-use Rattle.arith.proofs.Bounds.{sized, in-range, exact}
+use Rattle.arith.proofs.Bounds.{sized, in-range, exact, with-size}
 use Rattle.offset.specs.Offset.{signedBy}
-use Rattle.offset.proofs.Division.{with-size, test-exact, upon-below, upon-above, upon-size}
+use Rattle.offset.proofs.Division.{test-exact, upon-below, upon-above, upon-size}
 use Rattle.offset.proofs.offset.signed_by.Statement.{statement}
 use Rattle.offset.proofs.offset.signed_by.Tie as tie
 

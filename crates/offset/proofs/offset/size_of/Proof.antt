@@ -4,8 +4,8 @@ use lib.IntN.{pos, natAbs}
 use lib.Signed.{ltZ}
 use mir.Syntax.{w64}
 use mir.Val.{toZ, ofZ}
-use Rattle.arith.proofs.Bounds.{sized, in-range, exact}
-use Rattle.offset.proofs.Division.{with-size, test-exact, size-below, size-above}
+use Rattle.arith.proofs.Bounds.{sized, in-range, exact, with-size}
+use Rattle.offset.proofs.Division.{test-exact, size-below, size-above}
 use Rattle.offset.proofs.offset.size_of.Statement.{statement}
 use Rattle.offset.proofs.offset.size_of.Tie as tie
 

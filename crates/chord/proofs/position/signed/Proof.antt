@@ -1,10 +1,9 @@
 -- `signed` meets its contract.
-use lib.IntN.{pos}
 use borrow.Author.Needs.{needs}
-use Rattle.arith.proofs.Bounds.{sized, exact}
-use Rattle.offset.proofs.Division.{with-size}
-use Rattle.offset.proofs.offset.signed.Statement.{statement}
-use Rattle.offset.proofs.offset.signed.Tie as tie
+use lib.IntN.{pos}
+use Rattle.arith.proofs.Bounds.{sized, exact, with-size}
+use Rattle.chord.proofs.position.signed.Statement.{statement}
+use Rattle.chord.proofs.position.signed.Tie as tie
 
 returns : tie.Need-returns
 returns c = with-size (pos (c .args .n)) (exact (search sized depth 9) tt) (c .pre)

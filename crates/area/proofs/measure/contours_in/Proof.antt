@@ -1,0 +1,22 @@
+-- `contours_in` meets its contract.
+use mathlib.Core.Path.{sym, _∙_}
+use borrow.Author.Needs.{needs}
+use Rattle.grid.specs.Layer.{layerOf}
+use Rattle.contour.proofs.FirstSets.{counted-below, set-count}
+use Rattle.area.proofs.measure.contours_in.Statement.{statement}
+use Rattle.area.proofs.measure.contours_in.Tie as tie
+
+member-count-requires : tie.Need-member-count-requires
+member-count-requires c κs =
+    let start = c .before .before in
+    let a = start .args in
+    counted-below (layerOf (a .size) (a .bitmap .now)) (start .pre .sound) (a .set .now) (start .pre) _ (c .kind-start .ensures)
+
+returns : tie.Need-returns
+returns c =
+    let start = c .before .before .before in
+    let a = start .args in
+    c .member-count .ensures ∙ set-count (layerOf (a .size) (a .bitmap .now)) (start .pre .sound) (a .set .now) (start .pre)
+
+pub contours-in-spec : {M : Type 1} → statement M
+contours-in-spec = tie.close (tie.spec (λ c κs. search needs) member-count-requires returns)

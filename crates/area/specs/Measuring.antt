@@ -1,0 +1,41 @@
+-- What the code that measures is given, and what it ensures.
+use mathlib.Core.Path.{_≡_}
+use mathlib.Core.Bool.{true, false, cond}
+use mathlib.Core.List.{List}
+use Prim.Native.Nat.{ℕ, _*_, _^_, _≤_}
+use lib.IntN.{ℤ, natAbs}
+use lib.ListN.{length}
+use lib.Seq.{sets}
+use Rattle.grid.specs.Layer.{Layer}
+use Rattle.grid.specs.Edges.{isStick}
+use Rattle.grid.specs.declared.edge.Edge.{Edge}
+use Rattle.contour.specs.Contours.{contourOf}
+use Rattle.chord.specs.Points.{Position}
+use Rattle.held.specs.Questions.{Accepted}
+use Rattle.area.specs.declared.walk.Trail.{Trail}
+use Rattle.area.specs.Areas.{twiceArea, areasOf, totalOf}
+
+-- the first and the last kept vertex that a walk has passed, before the first one and past one more
+abbrev pub origin : Position
+origin = record { x = 0; y = 0 }
+
+abbrev pub noTrail : Trail
+noTrail = record { begun = false; begin = origin; last = origin }
+
+abbrev pub trailTo : Trail → Position → Trail
+trailTo t here = record { begun = true; begin = cond (t .begun) (t .begin) here; last = here }
+
+-- a stick of a layer that passed questions 1 to 7
+pub record Measurable (L : Layer) (t : List ℕ) (f : Edge) : Type 0 where
+  pub accepted : Accepted L t
+  pub stick : isStick L f ≡ true
+
+-- twice the area of a contour, and that it fits: no edge adds more than 2^37, and there is one more than are counted
+pub record AreaFound (L : Layer) (t : List ℕ) (f : Edge) (area : ℤ) : Type 0 where
+  pub is : area ≡ twiceArea L t f
+  pub most : natAbs area ≤ 2 ^ 38 * length (contourOf L f)
+
+-- the numbers of all contours stand in the output, and their sum is found
+pub record AllMeasured (L : Layer) (t : List ℕ) (found left : List ℤ) (total : ℤ) : Type 0 where
+  pub put : left ≡ sets found 0 (areasOf L t)
+  pub sum : total ≡ totalOf L t

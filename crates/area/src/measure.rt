@@ -1,0 +1,68 @@
+// The public call that measures the contours of a held layer.
+use super::contours::put_areas;
+use bitset::EdgeSet;
+use bitset::WORDS;
+use bitset::member_count;
+use grid::Answer;
+use grid::Refusal;
+use grid::Size;
+use grid::kind_start;
+ghost use mathlib.Core.Path.{_≡_};
+ghost use Rattle.grid.specs.Layer.{layerOf, sizeOf};
+ghost use Rattle.grid.specs.Questions.{firstNo};
+ghost use Rattle.grid.specs.declared.question.Answer.the-variants.{Yes};
+ghost use Rattle.contour.specs.Contours.{contourCount};
+ghost use Rattle.contour.specs.Sets.{FirstSet};
+ghost use Rattle.held.specs.Questions.{heldQuestions};
+ghost use Rattle.area.specs.Call.{outcome, measureOf};
+
+// The answer: done, with the number of contours and the sum over them, or refused with the question and its place.
+pub enum Measured {
+    Done { contours: usize, total: i64 },
+    Refused(Refusal, usize),
+}
+
+// How many contours a layer has whose first sticks are in the set.
+fn contours_in(size: Size, bitmap: &[u8], set: &EdgeSet) -> usize
+    requires { ⌜ FirstSet (layerOf size (now bitmap)) (now set) ⌝ }
+    ensures { λ r. ⌜ r ≡ contourCount (layerOf size (now (bitmap .entry))) ⌝ }
+{
+    member_count(set, kind_start(size, true))
+}
+
+// Measures a layer that passed questions 1 to 7, if the output is long enough.
+fn measure_held(
+    size: Size,
+    bitmap: &[u8],
+    table: &[u16],
+    set: &EdgeSet,
+    areas: &mut [i64],
+) -> Measured
+    requires { ⌜ firstNo (heldQuestions (layerOf size (now bitmap)) (now table)) ≡ Yes ⌝ }
+    requires { ⌜ FirstSet (layerOf size (now bitmap)) (now set) ⌝ }
+    ensures { λ r. ⌜ outcome r (now (areas .exit)) ≡ measureOf (layerOf size (now (bitmap .entry))) (now (table .entry)) (now (areas .entry)) ⌝ }
+{
+    let contours = contours_in(size, bitmap, set);
+    if areas.len() < contours {
+        return Measured::Refused(Refusal::ShortOutput, 0);
+    }
+    let total = put_areas(size, bitmap, table, set, areas);
+    Measured::Done { contours, total }
+}
+
+// Twice the signed area of each contour of a held layer, and their sum. A refusal leaves the output as found, and what lies past the last contour's
+// number stays as it was.
+pub fn areas(w: u16, h: u16, bitmap: &[u8], table: &[u16], areas: &mut [i64]) -> Measured
+    ensures { λ r. ⌜ outcome r (now (areas .exit)) ≡ measureOf (layerOf (sizeOf w h) (now (bitmap .entry))) (now (table .entry)) (now (areas .entry)) ⌝ }
+{
+    let size = Size {
+        width: w as usize,
+        height: h as usize,
+    };
+    let mut set: EdgeSet = [0; WORDS];
+    let answer = held::ask_held_firsts(size, bitmap, table, &mut set);
+    match answer {
+        Answer::Yes => measure_held(size, bitmap, table, &set, areas),
+        Answer::No(q, place) => Measured::Refused(q, place),
+    }
+}

@@ -1,0 +1,72 @@
+// Twice the signed area of one contour, by one walk over it.
+use chord::Position;
+use chord::signed;
+use contour::same_edge;
+use drawn::vertex_at;
+use grid::Edge;
+use grid::Size;
+use step::next_stick;
+use table::entry_at;
+use table::is_kept;
+ghost use mathlib.Core.Path.{_≡_};
+ghost use Prim.Native.Nat.{_^_, _≤_};
+ghost use lib.IntN.{natAbs};
+ghost use Rattle.grid.specs.Layer.{layerOf};
+ghost use Rattle.chord.specs.Runs.{Near};
+ghost use Rattle.area.specs.Areas.{cross};
+ghost use Rattle.area.specs.Measuring.{trailTo, Measurable, AreaFound};
+
+// What a drawn edge from p to q adds.
+fn cross_of(p: Position, q: Position) -> i64
+    requires { ⌜ Near p ⌝ }
+    requires { ⌜ Near q ⌝ }
+    ensures { λ r. ⌜ r ≡ cross p q ⌝ }
+    ensures { λ r. ⌜ natAbs r ≤ 2 ^ 37 ⌝ }
+{
+    signed(p.x) * signed(q.y) - signed(q.x) * signed(p.y)
+}
+
+// The first and the last kept vertex that a walk has passed. Before there is one, both are the origin, from where an edge adds nothing.
+pub struct Trail {
+    pub begun: bool,
+    pub begin: Position,
+    pub last: Position,
+}
+
+// The trail past one more kept vertex.
+fn trail_to(trail: Trail, here: Position) -> Trail
+    ensures { λ r. ⌜ r ≡ trailTo trail here ⌝ }
+{
+    Trail {
+        begun: true,
+        begin: if trail.begun { trail.begin } else { here },
+        last: here,
+    }
+}
+
+// The sum over the drawn edges of the contour that starts at `first`: each ends at a kept vertex that the walk passes, but for the one from the last
+// of them to the first.
+pub fn contour_area(size: Size, bitmap: &[u8], table: &[u16], first: Edge) -> i64
+    requires { ⌜ Measurable (layerOf size (now bitmap)) (now table) first ⌝ }
+    ensures { λ r. ⌜ AreaFound (layerOf size (now (bitmap .entry))) (now (table .entry)) first r ⌝ }
+{
+    let mut area: i64 = 0;
+    let mut trail = Trail {
+        begun: false,
+        begin: Position { x: 0, y: 0 },
+        last: Position { x: 0, y: 0 },
+    };
+    let mut e = first;
+    loop {
+        if is_kept(entry_at(size, table, e)) {
+            let here = vertex_at(size, table, e);
+            area += cross_of(trail.last, here);
+            trail = trail_to(trail, here);
+        }
+        e = next_stick(size, bitmap, e);
+        if same_edge(e, first) {
+            break;
+        }
+    }
+    area + cross_of(trail.last, trail.begin)
+}

@@ -1,0 +1,1 @@
+-- Theorems on the areas of a held layer.
