@@ -1,2 +1,4 @@
--- Summing: the sum along one contour. Contours: the areas of all contours, stored one after the other. Answered: the call by its answers.
+-- Summing: the sum along one contour. Storing: the areas of all contours, stored one after the other. Answered: the call by its answers.
 pub mod Summing
+pub mod Storing
+pub mod Answered

@@ -35,7 +35,8 @@ pub record AreaFound (L : Layer) (t : List ℕ) (f : Edge) (area : ℤ) : Type 0
   pub is : area ≡ twiceArea L t f
   pub most : natAbs area ≤ 2 ^ 38 * length (contourOf L f)
 
--- the numbers of all contours stand in the output, and their sum is found
+-- the numbers of all contours stand in the output, and their sum is found, which fits
 pub record AllMeasured (L : Layer) (t : List ℕ) (found left : List ℤ) (total : ℤ) : Type 0 where
   pub put : left ≡ sets found 0 (areasOf L t)
   pub sum : total ≡ totalOf L t
+  pub small : natAbs total ≤ 2 ^ 59

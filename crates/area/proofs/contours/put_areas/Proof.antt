@@ -1,80 +1,77 @@
+-- `put_areas` meets its contract. The invariant: the numbers of the contours that are left, stored from here on and summed, give the whole.
+use Prim.Native.Nat.{_≤_}
+use native.Mathlib.Omega.{arith}
+use borrow.Author.Needs.{needs}
+use lib.ListN.{length}
+use mir.Syntax.{w64}
+use mir.Val.{toZ}
+use Rattle.arith.proofs.Bounds.{sized, in-range, exact}
+use Rattle.grid.specs.Layer.{layerOf}
+use Rattle.contour.specs.Cursors.{left}
+use Rattle.contour.proofs.Cursors.{here-stick, fewer}
+use Rattle.area.specs.Measuring.{Measurable}
+use Rattle.area.proofs.Storing.{PartMeasured, area-small, measured-few, measured-start, measured-small, measured-room, measured-turn, measured-end}
 use Rattle.area.proofs.contours.put_areas.Statement.{statement}
 use Rattle.area.proofs.contours.put_areas.Tie as tie
-use Rattle.area.proofs.contours.put_areas.Reads as reads
-use Rattle.area.proofs.contours.put_areas.Lts as lts
-use Rattle.area.proofs.walk.contour_area.Reads as contour-area-reads
-use Rattle.contour.proofs.first_contour.Reads as first-contour-reads
-use Rattle.contour.proofs.next_contour.Reads as next-contour-reads
 
 abbrev Inv-loop : tie.InvT-loop
-Inv-loop size bitmap table set areas₀ total₀ place₀ at₀ areas total place at = ?
+Inv-loop size bitmap table set areas₀ total₀ place₀ at₀ areas total place at =
+    PartMeasured (layerOf size bitmap) table areas₀ areas (toZ w64 total) place at
 
 abbrev μ-loop : tie.MeasureT-loop
-μ-loop size bitmap table set areas₀ total₀ place₀ at₀ areas total place at = ?
+μ-loop size bitmap table set areas₀ total₀ place₀ at₀ areas total place at = length (left (layerOf size bitmap) at)
 
--- src/contours.rt:30:9
-first-contour-requires : tie.Need-first-contour-requires Inv-loop μ-loop
-first-contour-requires c κs = ?
+abbrev start : tie.At-loop Inv-loop μ-loop → tie.Start Inv-loop μ-loop
+start c = c .before .before .before .before
 
--- src/contours.rt:31:5
-loop-holds : tie.Need-loop-holds Inv-loop μ-loop
-loop-holds c = ?
+-- the contour that is next
+here : (c : tie.In-loop Inv-loop μ-loop)
+    → let a = start (c .before) .args in Measurable (layerOf (a .size) (a .bitmap .now)) (a .table .now) (c .before .loop .at .stick)
+here c =
+    let given = start (c .before) .pre in
+    record { accepted = given .0; stick = here-stick (given .1 .0) (c .before .loop .inv .placed) (c .loop-test .taken) }
 
--- src/contours.rt:32:13
-contour-area-requires : tie.Need-contour-area-requires Inv-loop μ-loop
-contour-area-requires c κs = ?
+few : (c : tie.At-loop Inv-loop μ-loop) → c .loop .place ≤ 2095104
+few c = measured-few (c .loop .inv) (start c .pre .0)
 
--- src/contours.rt:33:9
-mul-area : tie.Need-mul-area Inv-loop μ-loop
-mul-area c = ?
-
--- src/contours.rt:33:9
 slice-set-from-area : tie.Need-slice-set-from-area Inv-loop μ-loop
-slice-set-from-area c = ?
+slice-set-from-area c =
+    let in-loop = c .before in
+    let given = start (in-loop .before) .pre in
+    measured-room (in-loop .before .loop .inv) (given .1 .0) (in-loop .loop-test .taken) (given .1 .1)
 
--- src/contours.rt:34:9
 add-total : tie.Need-add-total Inv-loop μ-loop
-add-total c = ?
+add-total c =
+    let at-loop = c .before .before in
+    let so-far = measured-small (at-loop .loop .inv) (start at-loop .pre .0) in
+    let one = area-small (here (c .before)) (c .contour-area .ensures) in
+    in-range (search sized depth 9) tt
 
--- src/contours.rt:35:9
-add-place : tie.Need-add-place Inv-loop μ-loop
-add-place c = ?
-
--- src/contours.rt:36:9
 next-contour-requires : tie.Need-next-contour-requires Inv-loop μ-loop
-next-contour-requires c κs = ?
+next-contour-requires c κs =
+    let in-loop = c .before in
+    let at-loop = in-loop .before in
+    (start at-loop .pre .1 .0, (at-loop .loop .inv .placed, in-loop .loop-test .taken))
 
--- src/contours.rt:31:5
-loop-less : tie.Need-loop-less Inv-loop μ-loop
-loop-less c = ?
-
--- src/contours.rt:31:5
 loop-again : tie.Need-loop-again Inv-loop μ-loop
-loop-again c = ?
+loop-again c =
+    let measured = c .before in
+    let at-loop = measured .before .before in
+    let so-far = measured-small (at-loop .loop .inv) (start at-loop .pre .0) in
+    let one = area-small (here (measured .before)) (measured .contour-area .ensures) in
+    measured-turn (at-loop .loop .inv) (measured .contour-area .ensures) (exact (search sized depth 9) tt) (exact (search sized depth 9) tt)
+    (c .next-contour .ensures)
 
--- src/contours.rt:16:1
-same-length : tie.Need-same-length Inv-loop μ-loop
-same-length c = ?
-
--- src/contours.rt:16:1
 returns : tie.Need-returns Inv-loop μ-loop
-returns c = ?
+returns c =
+    let at-loop = c .before in
+    let given = start at-loop .pre in
+    measured-end (at-loop .loop .inv) (given .1 .0) (given .0) (c .loop-test .left)
 
 pub put-areas-spec : {M : Type 1} → statement M
 put-areas-spec =
     tie.close
-    (tie.spec
-    Inv-loop
-    μ-loop
-    first-contour-requires
-    loop-holds
-    contour-area-requires
-    mul-area
-    slice-set-from-area
-    add-total
-    add-place
-    next-contour-requires
-    loop-less
-    loop-again
-    same-length
-    returns)
+    (tie.spec Inv-loop μ-loop (λ c κs. search needs) (λ c. measured-start (c .first-contour .ensures)) (λ c κs. here c)
+    (λ c. omega (arith, few (c .before .before))) slice-set-from-area add-total (λ c. omega (arith, few (c .before .before)))
+    next-contour-requires (λ c. fewer (c .next-contour .ensures .left)) loop-again
+    (λ c. c .before .loop .inv .same-length) returns)
