@@ -1,6 +1,6 @@
--- Where the drawn edges of a contour meet its sticks, at one pitch for all: fractions brought to one denominator M. The polygon with these vertices,
--- one on every stick, and the polygon of the drawn edges have the same area: the points on one drawn edge are collinear, so what the sticks
--- between its ends add is what the drawn edge adds, which telescopes along the walk.
+-- Where the drawn edges of a contour meet its sticks, as fractions brought to one denominator M. The polygon with these vertices, one on every stick,
+-- and that of the drawn edges have the same area: the points on one drawn edge are collinear, so what the polygon's edges between its ends add
+-- is what the drawn edge adds, which telescopes along the walk.
 use mathlib.Core.Path.{_≡_, refl, sym, subst, ap, _∙_}
 use mathlib.Core.Logic.{_⊎_, inl, inr}
 use mathlib.Core.Bool.{Bool, true, false, cond}
@@ -52,11 +52,11 @@ takenAlong L t ds = total (λ d. vertex L t (d .to) .x * vertex L t (d .from) .y
 -- ---- one denominator
 
 -- a number that all the numbers d e of a list's edges divide
-pub record Shares (L : Layer) (d : Edge → ℕ) (l : List Edge) : Type 0 where
-  pub M : ℕ
-  pub some : 0 < M
-  pub share : Edge → ℕ
-  pub is : (e : Edge) → 0 < occurrences (walkOf L) e l → share e * d e ≡ M
+record Shares (L : Layer) (d : Edge → ℕ) (l : List Edge) : Type 0 where
+  M : ℕ
+  some : 0 < M
+  share : Edge → ℕ
+  is : (e : Edge) → 0 < occurrences (walkOf L) e l → share e * d e ≡ M
 
 shares : (L : Layer) (d : Edge → ℕ) (l : List Edge) → ((e : Edge) → 0 < occurrences (walkOf L) e l → 0 < d e) → Shares L d l
 unfolding occurrences
@@ -110,19 +110,19 @@ kept-identity M zx zy wx wy px py qx qy wx-is wy-is = rw (wx-is, wy-is) (omega a
 -- the ends of the drawn edge that passes a stick, and the point where it does, by its weights: the vertex of a kept one, the crossing point of a
 -- removed one
 module _ (L : Layer) (t : List ℕ) where
-  abbrev pub startOf : Edge → Edge
+  abbrev startOf : Edge → Edge
   startOf e = cond (keptAt L t e) e (previousKept L t e)
 
-  abbrev pub endOf : Edge → Position
+  abbrev endOf : Edge → Position
   endOf e = vertex L t (nextKept L t e)
 
-  abbrev pub startWeight : Edge → ℕ
+  abbrev startWeight : Edge → ℕ
   startWeight e = cond (keptAt L t e) 1 (off e (endOf e))
 
-  abbrev pub endWeight : Edge → ℕ
+  abbrev endWeight : Edge → ℕ
   endWeight e = cond (keptAt L t e) 0 (off e (vertex L t (previousKept L t e)))
 
-  abbrev pub spot : Edge → Homogeneous
+  abbrev spot : Edge → Homogeneous
   spot e = weighted (startWeight e) (endWeight e) (vertex L t (startOf e)) (endOf e)
 
 -- its coordinate along the stick at denominator M, less where the stick begins
@@ -196,6 +196,7 @@ module _ (L : Layer) (t : List ℕ) (sound : Sound L) (vertices : Vertices L t) 
 
   module _ (f : Edge) (f-stick : isStick L f ≡ true) (M : ℕ) (some : 0 < M) (share : Edge → ℕ)
       (is : (e : Edge) → OnContour (walkOf L) f e → share e * spot L t e .d ≡ M) where
+    -- the offset of the vertex on a stick
     unfoldable o : Edge → ℕ
     o e = share e * alongOf e (spot L t e) - M * base e
 
@@ -329,7 +330,8 @@ module _ (L : Layer) (t : List ℕ) (sound : Sound L) (vertices : Vertices L t) 
           drawn-total (λ d. vertex L t (d .to) .x * vertex L t (d .from) .y) (contourOf L f),
         )
 
--- the contour that starts at f at a denominator M, with a vertex on each of its sticks: its drawn edges add and take as much as this polygon's edges
+-- A polygon with a vertex on each stick of the contour that starts at f, M times as large: what its edges add less what they take is M × M times
+-- what the contour's drawn edges do.
 pub record Scaled (L : Layer) (t : List ℕ) (f : Edge) : Type 0 where
   pub M : ℕ
   pub some : 0 < M

@@ -1,5 +1,5 @@
--- The area of one contour: its sign, and how near it is to the samples that the contour is around. Both are those of the polygon with a vertex on every
--- stick (Fractions), for which `encloses` has them, divided by the square of its denominator.
+-- The area of one contour: its sign, and how near it is to the samples that the contour is around. Both come from the polygon with a vertex on
+-- every stick (Fractions), for which `encloses` has them, by dividing by the square of its denominator.
 use mathlib.Core.Path.{_≡_, sym, ap, _∙_}
 use mathlib.Core.Logic.{_⊎_, inl, inr}
 use mathlib.Core.Bool.{Bool, true, false, false≢true, cond}
@@ -62,7 +62,7 @@ IsDiff z a b = positivePart z + b ≡ a + negativePart z
 sub-diff : (a b : ℕ) → IsDiff (pos a -ℤ pos b) a b
 sub-diff a b = omega (arith, add-parts (pos a) (negℤ (pos b)), neg-parts (pos b))
 
-pub near-diff : (z w : ℤ) (a b c d k : ℕ) → IsDiff z a b → IsDiff w c d → a + d < b + c + k → b + c < a + d + k → natAbs (z -ℤ w) < k
+near-diff : (z w : ℤ) (a b c d k : ℕ) → IsDiff z a b → IsDiff w c d → a + d < b + c + k → b + c < a + d + k → natAbs (z -ℤ w) < k
 near-diff z w a b c d k z-is w-is below above =
     omega (arith, add-parts z (negℤ w), neg-parts w, natAbs-parts (z -ℤ w))
 
@@ -74,7 +74,7 @@ module _ (L : Layer) (t : List ℕ) where
       let one = sub-diff (vertex L t (d .from) .x * vertex L t (d .to) .y) (vertex L t (d .to) .x * vertex L t (d .from) .y) in
       omega (arith, one, sum-diff l, add-parts (edgeAdds L t d) (sumOf (map (edgeAdds L t) l)))
 
-  pub area-diff : (f : Edge) → IsDiff (twiceArea L t f) (addedAlong L t (drawnOf L t f)) (takenAlong L t (drawnOf L t f))
+  area-diff : (f : Edge) → IsDiff (twiceArea L t f) (addedAlong L t (drawnOf L t f)) (takenAlong L t (drawnOf L t f))
   unfolding twiceArea
   area-diff f = sum-diff (drawnOf L t f)
 
@@ -90,7 +90,7 @@ samples-diff L f = by (isBore L f)
 
 -- ---- the area of a contour
 
--- more is more than less, and differs by less than n/2 square pitches from N of them, in 1/256 of the pitch
+-- what `Encloses` says, at a pitch of 256 and strictly
 record Bounds (n N more less : ℕ) : Type 0 where
   above : less < more
   least : 131072 * N + less < more + 65536 * n

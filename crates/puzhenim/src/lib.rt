@@ -3,7 +3,7 @@
 ghost use mathlib.Core.Path.{_≡_};
 ghost use lib.ListN.{length};
 ghost use Rattle.grid.specs.Layer.{layerOf, sizeOf};
-ghost use Rattle.puzhenim.specs.Face.{traceFace, countsFace, smoothFace, simplifyFace, rollFace, writeFace, readFace, planFace, sampleFace};
+ghost use Rattle.puzhenim.specs.Face.{traceFace, countsFace, smoothFace, simplifyFace, rollFace, writeFace, readFace, planFace, measureFace, sampleFace};
 
 // The number of question 14, for fewer figures than four.
 const SHORT_OUTPUT: u32 = 14;
@@ -150,6 +150,24 @@ pub extern "C" fn pz_plan(
     }
     let answer = planner::plan(w, h, bitmap, table, items, points);
     report::put_report(figures, report::planned_report(answer))
+}
+
+#[no_mangle]
+pub extern "C" fn pz_areas(
+    w: u16,
+    h: u16,
+    bitmap: &[u8],
+    table: &[u16],
+    areas: &mut [i64],
+    figures: &mut [u64],
+) -> u32
+    ensures { λ r. ⌜ record { number = r; buffers = now (areas .exit); figures = now (figures .exit) } ≡ measureFace (layerOf (sizeOf w h) (now (bitmap .entry))) (now (table .entry)) (now (areas .entry)) (now (figures .entry)) ⌝ }
+{
+    if figures.len() < 4 {
+        return SHORT_OUTPUT;
+    }
+    let answer = area::areas(w, h, bitmap, table, areas);
+    report::put_report(figures, report::measured_report(answer))
 }
 
 #[no_mangle]

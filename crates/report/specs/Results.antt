@@ -3,8 +3,9 @@
 use mathlib.Core.Path.{_≡_}
 use mathlib.Core.Bool.{cond}
 use mathlib.Core.List.{List}
-use Prim.Native.Nat.{ℕ, _≤_}
+use Prim.Native.Nat.{ℕ, suc, _-_, _^_, _≤_}
 use lib.Ieee.{Float}
+use lib.IntN.{ℤ, pos, negsuc}
 use lib.ListN.{length, set}
 use Rattle.trace.specs.Trace as Trace
 use Rattle.trace.specs.Counts as Counts
@@ -14,6 +15,7 @@ use Rattle.roll.specs.Roll as Roll
 use Rattle.sheet.specs.Written as Write
 use Rattle.reading.specs.Reading as Read
 use Rattle.planner.specs.Plan as Plan
+use Rattle.area.specs.Call as Area
 use Rattle.view.specs.declared.viewing.Sampled.{Sampled}
 use Rattle.report.specs.declared.report.Report.{Report}
 
@@ -83,6 +85,19 @@ planResult o =
     record {
       report = record { number = o .refusal; place = o .place; first = o .items; second = o .floats; third = 0 };
       buffers = record { items = o .itemBuffer; points = o .pointBuffer };
+    }
+
+-- A figure has 64 bits, so a number below 0 stands in two's complement.
+abbrev pub twosComplement : ℤ → ℕ
+twosComplement (pos n) = n
+twosComplement (negsuc n) = 2 ^ 64 - suc n
+
+-- Areas: place, contours, total; and its output
+abbrev pub measureResult : Area.Outcome → Result (List ℤ)
+measureResult o =
+    record {
+      report = record { number = o .refusal; place = o .place; first = o .contours; second = twosComplement (o .total); third = 0 };
+      buffers = o .output;
     }
 
 -- One sample of a layer view: place, sample

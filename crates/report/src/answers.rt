@@ -1,8 +1,10 @@
 // The report of each call's answer. It equals that of the call's outcome, whatever the buffers hold that the call leaves.
 use super::report::Report;
 use super::report::done_report;
+use super::report::figure_of;
 use super::report::one_if;
 use super::report::refused_report;
+use area::Measured;
 use planner::Planned;
 use reading::SheetRead;
 use roll::Rolled;
@@ -15,6 +17,7 @@ use view::Sampled;
 ghost use mathlib.Core.Path.{_≡_};
 ghost use mathlib.Core.List.{List};
 ghost use Prim.Native.Nat.{ℕ};
+ghost use lib.IntN.{ℤ};
 ghost use Rattle.trace.specs.Trace as Trace;
 ghost use Rattle.trace.specs.Counts as Counts;
 ghost use Rattle.smooth.specs.Call as Smooth;
@@ -23,7 +26,8 @@ ghost use Rattle.roll.specs.Roll as Roll;
 ghost use Rattle.sheet.specs.Written as Write;
 ghost use Rattle.reading.specs.Reading as Read;
 ghost use Rattle.planner.specs.Plan as Plan;
-ghost use Rattle.report.specs.Results.{Outputs, traceResult, countsResult, smoothResult, simplifyResult, rollResult, writeResult, readResult, planResult, sampleResult};
+ghost use Rattle.area.specs.Call as Area;
+ghost use Rattle.report.specs.Results.{Outputs, traceResult, countsResult, smoothResult, simplifyResult, rollResult, writeResult, readResult, planResult, measureResult, sampleResult};
 
 pub fn traced_report(answer: Traced) -> Report
     ensures { λ r. ⌜ ((t : List ℕ) → record { report = r; buffers = t } ≡ traceResult (Trace.outcome answer t)) ⌝ }
@@ -113,6 +117,15 @@ pub fn planned_report(answer: Planned) -> Report
     match answer {
         Planned::Done { items, floats } => done_report(items, floats, 0),
         Planned::Refused(q, place) => refused_report(q, place),
+    }
+}
+
+pub fn measured_report(answer: Measured) -> Report
+    ensures { λ r. ⌜ ((out : List ℤ) → record { report = r; buffers = out } ≡ measureResult (Area.outcome answer out)) ⌝ }
+{
+    match answer {
+        Measured::Done { contours, total } => done_report(contours, figure_of(total), 0),
+        Measured::Refused(q, place) => refused_report(q, place),
     }
 }
 

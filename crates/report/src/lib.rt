@@ -3,6 +3,7 @@ mod answers;
 mod report;
 
 pub use answers::counted_report;
+pub use answers::measured_report;
 pub use answers::planned_report;
 pub use answers::read_report;
 pub use answers::rolled_report;

@@ -5,7 +5,7 @@ ghost use mathlib.Core.Bool.{cond};
 ghost use Prim.Native.Nat.{_≤_};
 ghost use lib.ListN.{length};
 ghost use Rattle.grid.specs.Questions.{numberOf};
-ghost use Rattle.report.specs.Results.{ReportStored};
+ghost use Rattle.report.specs.Results.{ReportStored, twosComplement};
 
 pub struct Report {
     pub number: u32,
@@ -57,4 +57,15 @@ pub fn one_if(b: bool) -> usize
     ensures { λ r. ⌜ r ≡ cond b 1 0 ⌝ }
 {
     if b { 1 } else { 0 }
+}
+
+// A signed number as a figure: below 0 in two's complement.
+pub fn figure_of(z: i64) -> usize
+    ensures { λ r. ⌜ r ≡ twosComplement z ⌝ }
+{
+    if z >= 0 {
+        z as usize
+    } else {
+        18446744073709551615 - (-1 - z) as usize
+    }
 }

@@ -1,0 +1,2 @@
+-- Figures: a signed number as a figure.
+pub mod Figures
