@@ -248,6 +248,22 @@ struct Simplifier {
     }
 };
 
+// Twice the signed area of a held contour: of each drawn edge its start's x times its end's y, less its end's x times its start's y.
+int64_t twice_area(const Contour &contour, const uint16_t *table) {
+    auto product = [](Point p, Point q) { return p.x * q.y - q.x * p.y; };
+    Point first = {}, last = {};
+    int64_t sum = 0;
+    bool begun = false;
+    for (const Stick &stick : contour)
+        if (is_kept(table[stick.number])) {
+            Point p = vertex(stick, table[stick.number]);
+            if (begun) sum += product(last, p);
+            else first = p, begun = true;
+            last = p;
+        }
+    return sum + product(last, first);
+}
+
 // A contour of the layer, and where each stick stands on it.
 struct Places {
     const std::vector<Contour> &contours;
@@ -496,6 +512,18 @@ uint32_t plan(uint16_t w, uint16_t h, const uint8_t *bitmap, size_t bytes, const
         *items++ = 'Z';
     }
     return answer(figures, YES, kept + contours.size(), 2 * kept);
+}
+
+uint32_t areas(uint16_t w, uint16_t h, const uint8_t *bitmap, size_t bytes, const uint16_t *table, size_t entries, int64_t *areas, size_t area_count,
+               uint64_t *figures) {
+    Layer layer = layer_of(w, h, bitmap);
+    std::vector<Contour> contours;
+    Refusal refusal = ask_1_to_7(layer, bytes, table, entries, contours);
+    if (refusal.number) return answer(figures, refusal);
+    if (area_count < contours.size()) return answer(figures, {14, 0});
+    int64_t total = 0;
+    for (const Contour &contour : contours) total += *areas++ = twice_area(contour, table);
+    return answer(figures, YES, contours.size(), total);
 }
 
 std::vector<uint8_t> accepted(uint16_t w, uint16_t h, const uint8_t *bitmap, uint16_t *table, const std::vector<uint8_t> &roll, uint8_t t) {

@@ -28,8 +28,8 @@
  * N, move or remove a pinned vertex or take its pin away; no command of a roll does.
  *
  * The questions, in this order, and the place of a refusal. pz_counts and pz_trace put 1 to 5, pz_smooth and pz_simplify 1 to 7 and 15,
- * pz_roll 1 to 8 and for each command those of 9, 16 and 10 to 13 that it has (P has 9 alone), pz_write_sheet and pz_plan 1 to 7 and 14,
- * pz_read_sheet 1 to 5, 8 and then 7, pz_sample 1 to 4.
+ * pz_roll 1 to 8 and for each command those of 9, 16 and 10 to 13 that it has (P has 9 alone), pz_write_sheet, pz_plan and pz_areas 1 to 7
+ * and 14, pz_read_sheet 1 to 5, 8 and then 7, pz_sample 1 to 4.
  *
  *  1  Are w and h 2 to 1024? (0)
  *  2  Is the bitmap's length exact? (0)
@@ -100,6 +100,15 @@ uint32_t pz_read_sheet(uint16_t w, uint16_t h, const uint8_t *bitmap, size_t bit
  * have even depth and bores odd depth. The order depends on the bitmap alone. figures: place, items, floats */
 uint32_t pz_plan(uint16_t w, uint16_t h, const uint8_t *bitmap, size_t bitmap_len, const uint16_t *table, size_t table_len,
                  uint8_t *items, size_t items_len, double *points, size_t points_len, uint64_t *figures, size_t figures_len);
+
+/* Writes a number for each contour, in the order of the sheet, which is not that of the planner's list: twice its signed area in 1/65536 of a
+ * square pitch, so that a square of one pitch by one pitch is 131072. It is the sum over the contour's drawn edges, in 1/256 of the pitch, of
+ * start x * end y - end x * start y; a drawn edge joins two kept vertices, pinned or not, with only removed ones between. The number of an
+ * outline, which winds around the inside ends of its sticks, is above 0, that of a bore, which winds around the outside ends, below 0. The
+ * total is the sum over all contours, 0 without any; as a figure it is signed, in two's complement: (int64_t)figures[2]. figures: place,
+ * contours, total */
+uint32_t pz_areas(uint16_t w, uint16_t h, const uint8_t *bitmap, size_t bitmap_len, const uint16_t *table, size_t table_len,
+                  int64_t *areas, size_t areas_len, uint64_t *figures, size_t figures_len);
 
 /* One sample, 1 if inside; off the grid it is outside. figures: place, sample */
 uint32_t pz_sample(uint16_t w, uint16_t h, const uint8_t *bitmap, size_t bitmap_len, uint16_t column, uint16_t row,

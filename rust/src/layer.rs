@@ -1,6 +1,6 @@
 //! A layer and the calls on it.
 
-use crate::{raw, Edge, Kind, List, Refusal, View};
+use crate::{raw, Area, Areas, Edge, List, Refusal, View};
 
 /// A sampled layer: columns and rows, 2 to 1,024 each, and the bitmap, (width + 7) / 8 bytes a row, row 0 the lowest. Sample (c, r) is
 /// bit c % 8, least significant first, of byte c / 8 of row r; 1 is inside. Any values may be put here: the calls ask whether they are
@@ -53,6 +53,15 @@ pub struct Planned {
     pub items: u64,
     /// Floats written, two a point.
     pub floats: u64,
+}
+
+/// What [`Layer::measure`] answers.
+#[derive(Clone, Copy, Debug, PartialEq, Eq)]
+pub struct Measured {
+    /// Contours, each with an area written.
+    pub contours: u64,
+    /// The sum of their areas.
+    pub total: Area,
 }
 
 /// The most samples that a side has.
@@ -286,26 +295,45 @@ impl<'a> Layer<'a> {
         Ok(List { items, points })
     }
 
-    /// What the contours are, in the order of the list, which depends on the bitmap alone: `kinds()[i]` belongs to contour i of every list of
-    /// this layer. Each contour comes after those around it; outlines have an even number of others around them, bores an odd one.
-    /// Questions 1 to 4.
+    /// Writes the area of each contour, in the order of the sheet, and answers how many there are and their sum. The numbers are those of
+    /// [`Area`], from the kept vertices: above 0 for an outline, below 0 for a bore. Numbers past them stay. Questions 1 to 7 and 14.
     ///
     /// ```
-    /// # use puzhenim::{Kind, Layer};
-    /// // A ring around a sample.
-    /// let bitmap = [0, 0b0111110, 0b0100010, 0b0101010, 0b0100010, 0b0111110, 0];
-    /// let layer = Layer { width: 7, height: 7, bitmap: &bitmap };
-    /// assert_eq!(layer.kinds()?, [Kind::Outline, Kind::Bore, Kind::Outline]);
+    /// # use puzhenim::{Area, Layer, Measured, Refusal};
+    /// let layer = Layer { width: 3, height: 3, bitmap: &[0, 2, 0] };
+    /// let mut table = layer.new_table();
+    /// layer.trace(&mut table)?;
+    /// let mut areas = [7; 2];
+    /// assert_eq!(layer.measure(&table, &mut areas)?, Measured { contours: 1, total: Area(65_536) });
+    /// assert_eq!(areas, [65_536, 7]);
+    /// assert_eq!(layer.measure(&table, &mut []), Err(Refusal::ShortOutput));
     /// # Ok::<(), puzhenim::Refusal>(())
     /// ```
-    pub fn kinds(&self) -> Result<Vec<Kind>, Refusal> {
-        let view = self.view()?;
-        let mut table = self.new_table();
-        self.trace(&mut table)?;
-        // Every vertex is kept in the middle of its stick, so a contour begins in the middle of its first stick, which is horizontal; rounding
-        // down gives its west end. A contour is a bore exactly if that is inside: the theorem of the library.
-        let first_points = self.list(&table)?.contours().into_iter().filter_map(|contour| contour.first().copied());
-        Ok(first_points.map(|(x, y)| if view.sample(x as u16, y as u16) { Kind::Bore } else { Kind::Outline }).collect())
+    pub fn measure(&self, table: &[u16], areas: &mut [i64]) -> Result<Measured, Refusal> {
+        let [contours, total, _] = accepted(raw::areas(*self, table, areas))?;
+        // A figure that is signed stands in two's complement.
+        Ok(Measured { contours, total: Area(total as i64) })
+    }
+
+    /// The areas as [`Layer::measure`] writes them, in a buffer of their own. `contours[i]` belongs to the contour that starts at
+    /// [`first_sticks()[i]`](Layer::first_sticks), which need not be contour i of the list: see [`Layer::list_order`].
+    ///
+    /// ```
+    /// # use puzhenim::{Area, Kind, Layer};
+    /// // Eight samples around one that is outside.
+    /// let layer = Layer { width: 5, height: 5, bitmap: &[0, 0b01110, 0b01010, 0b01110, 0] };
+    /// let mut table = layer.new_table();
+    /// layer.trace(&mut table)?;
+    /// let areas = layer.areas(&table)?;
+    /// assert_eq!(areas.contours, [Area(1_114_112), Area(-65_536)]);
+    /// assert_eq!((areas.contours[1].kind(), areas.contours[1].square_samples()), (Some(Kind::Bore), -0.5));
+    /// assert_eq!(areas.total.square_samples(), 8.0);
+    /// # Ok::<(), puzhenim::Refusal>(())
+    /// ```
+    pub fn areas(&self, table: &[u16]) -> Result<Areas, Refusal> {
+        let mut numbers = vec![0; self.counts(table)?.contours as usize];
+        let measured = self.measure(table, &mut numbers)?;
+        Ok(Areas { contours: numbers.into_iter().map(Area).collect(), total: measured.total })
     }
 
     /// A view for reading many samples. Questions 1 to 4, once.

@@ -19,6 +19,8 @@
 #![deny(unsafe_code)]
 #![warn(missing_docs)]
 
+mod area;
+mod contours;
 mod edge;
 mod layer;
 mod list;
@@ -27,8 +29,9 @@ mod raw;
 mod refusal;
 mod view;
 
+pub use area::{Area, Areas};
 pub use edge::{Edge, Vertex};
-pub use layer::{Counts, Layer, Planned, Simplified, Smoothed};
+pub use layer::{Counts, Layer, Measured, Planned, Simplified, Smoothed};
 pub use list::{Item, Kind, List};
 pub use refusal::Refusal;
 pub use view::View;

@@ -1,6 +1,6 @@
 //! The planner's list.
 
-/// What a contour is; [`Layer::kinds`](crate::Layer::kinds) tells.
+/// What a contour is; [`Layer::kinds`](crate::Layer::kinds) and the sign of its area ([`Area::kind`](crate::Area::kind)) tell.
 #[derive(Clone, Copy, Debug, PartialEq, Eq, Hash)]
 pub enum Kind {
     /// It winds around the inside ends of its sticks, counter-clockwise.

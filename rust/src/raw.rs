@@ -117,6 +117,19 @@ extern "C" {
         figures_len: usize,
     ) -> u32;
 
+    fn pz_areas(
+        w: u16,
+        h: u16,
+        bitmap: *const u8,
+        bitmap_len: usize,
+        table: *const u16,
+        table_len: usize,
+        areas: *mut i64,
+        areas_len: usize,
+        figures: *mut u64,
+        figures_len: usize,
+    ) -> u32;
+
     fn pz_sample(w: u16, h: u16, bitmap: *const u8, bitmap_len: usize, column: u16, row: u16, figures: *mut u64, figures_len: usize)
         -> u32;
 }
@@ -169,6 +182,11 @@ pub fn read_sheet(layer: Layer, table: &mut [u16], sheet: &[u8]) -> Answer {
 pub fn plan(layer: Layer, table: &[u16], items: &mut [u8], points: &mut [f64]) -> Answer {
     // Sound: the bitmap and the table are shared slices that the call reads; both outputs are lent exclusively, so they are apart.
     unsafe { answer!(pz_plan, layer, table.as_ptr(), table.len(), items.as_mut_ptr(), items.len(), points.as_mut_ptr(), points.len()) }
+}
+
+pub fn areas(layer: Layer, table: &[u16], areas: &mut [i64]) -> Answer {
+    // Sound: the bitmap and the table are shared slices that the call reads; the areas are lent exclusively.
+    unsafe { answer!(pz_areas, layer, table.as_ptr(), table.len(), areas.as_mut_ptr(), areas.len()) }
 }
 
 pub fn sample(layer: Layer, column: u16, row: u16) -> Answer {

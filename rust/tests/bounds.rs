@@ -1,7 +1,7 @@
 //! Sides, numbers and lists that no good layer has: nothing panics, wraps or asks for much memory. Views against single samples, and the
 //! deepest layer.
 
-use puzhenim::{Item, Kind, Layer, List, Refusal, View};
+use puzhenim::{Area, Areas, Item, Kind, Layer, List, Refusal, View};
 
 const ABSURD: [(u16, u16); 8] = [(0, 0), (0, 65535), (65535, 0), (1, 1), (1, 1024), (1025, 2), (2, 1025), (65535, 65535)];
 
@@ -19,9 +19,13 @@ fn absurd_sides_have_no_table() {
         assert_eq!(layer.sheet(&table), Err(Refusal::BadSides));
         assert_eq!(layer.read_sheet(&mut table, b""), Err(Refusal::BadSides));
         assert_eq!(layer.list(&table), Err(Refusal::BadSides));
+        assert_eq!(layer.measure(&table, &mut [0; 9]), Err(Refusal::BadSides));
+        assert_eq!(layer.areas(&table), Err(Refusal::BadSides));
         assert_eq!(layer.sample(65535, 65535), Err(Refusal::BadSides));
         assert_eq!(layer.view(), Err(Refusal::BadSides));
         assert_eq!(layer.kinds(), Err(Refusal::BadSides));
+        assert_eq!(layer.first_sticks(), Err(Refusal::BadSides));
+        assert_eq!(layer.list_order(), Err(Refusal::BadSides));
     }
     let lengths = [(2, 2), (1024, 2), (1024, 1024)].map(|(width, height)| Layer { width, height, bitmap: &[] }.new_table().len());
     assert_eq!(lengths, [4, 3070, 2_095_104]);
@@ -56,6 +60,13 @@ fn a_list_with_points_missing() {
     assert_eq!(list(b"lMl", &[1.0, 2.0, 3.0]).iter().collect::<Vec<_>>(), [Item::Line { x: 1.0, y: 2.0 }]);
     assert_eq!(list(b"lZ?", &[1.0, 2.0]).contours(), [[]; 0]);
     assert_eq!(list(b"", &[1.0]).iter().next(), None);
+}
+
+#[test]
+fn areas_that_no_layer_has() {
+    let areas = Areas { contours: [i64::MAX, 1, i64::MIN, -1, 0].map(Area).to_vec(), total: Area(-1) };
+    assert_eq!((areas.sum_of(Kind::Outline), areas.sum_of(Kind::Bore)), (Area(i64::MAX), Area(i64::MIN)));
+    assert_eq!(Area(i64::MIN).square_samples(), -(2.0_f64.powi(46)));
 }
 
 /// A layer of so many samples, its border outside.
@@ -102,6 +113,8 @@ fn a_view_and_kinds_are_refused_as_a_sample_is() {
         let refusal = layer.sample(1, 1).unwrap_err();
         assert_eq!(layer.view(), Err(refusal));
         assert_eq!(layer.kinds(), Err(refusal));
+        assert_eq!(layer.first_sticks(), Err(refusal));
+        assert_eq!(layer.list_order(), Err(refusal));
     }
 }
 
@@ -123,6 +136,15 @@ fn nested_squares_as_deep_as_a_layer_has_room_for() {
         assert_eq!((contour[0], contour.len()), ((i as f64 + 0.5, i as f64 + 1.0), 4 * (1022 - 2 * i)));
         assert_eq!(kind, if i % 2 == 0 { Kind::Outline } else { Kind::Bore });
     }
+    // Squares of sides 1,022, 1,020 and so on to 2, each without its corners, which are half a square together.
+    let areas = layer.areas(&table).unwrap();
+    for (i, area) in areas.contours.iter().enumerate() {
+        let side = 1022 - 2 * i as i64;
+        assert_eq!(area.0, 65_536 * (2 * side * side - 1) * if i % 2 == 0 { 1 } else { -1 });
+    }
+    // The alternating sum of the squares of 511, 510 and so on to 1 is 511 × 512 / 2.
+    assert_eq!(areas.total, Area(65_536 * (2 * 4 * 511 * 256 - 1)));
+    assert_eq!(layer.list_order().unwrap(), (0..511).collect::<Vec<usize>>());
 }
 
 #[test]

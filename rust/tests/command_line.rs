@@ -262,7 +262,11 @@ fn plans_as_text_and_as_bytes() {
     let folder = Folder::new("plan");
     folder.put("sheet", SHEET);
     let said = folder.done(&["plan", &example("sample.layer"), "sheet", "-o", "list"]);
-    assert_eq!(said, "outlines: 1, bores: 0, each after those around it\n");
+    let expected = "outlines: 1, bores: 0, each after those around it\n\
+                    contour    column     row    square samples    in 1/131072\n\
+                    outline         0       1          0.000031              4\n\
+                    total                              0.000031              4\n";
+    assert_eq!(said, expected);
     let list = "M 0.99609375 1\nl 1 0.99609375\nl 1.00390625 1\nl 1 1.00390625\nZ\n";
     assert_eq!(text(&folder.get("list")), list);
     assert_eq!(folder.done(&["plan", &example("sample.layer"), "sheet", "-o", "-"]), list);
@@ -285,7 +289,7 @@ fn plans_and_draws_an_outer_wall_before_what_lies_within() {
     folder.put("nested.pbm", NESTED);
     folder.done(&["slice", "nested.pbm", "-o", "sheet", "--passes", "0", "--tolerance", "0"]);
     let said = folder.done(&["plan", "nested.pbm", "sheet", "-o", "list"]);
-    assert_eq!(said, "outlines: 3, bores: 1, each after those around it\n");
+    assert!(said.starts_with("outlines: 3, bores: 1, each after those around it\n"));
     let list = text(&folder.get("list"));
     let moves: Vec<&str> = list.lines().filter(|line| line.starts_with('M')).collect();
     assert_eq!(moves, ["M 0.5 1", "M 0.5 7", "M 1.5 2", "M 2.5 3"]);
@@ -294,6 +298,61 @@ fn plans_and_draws_an_outer_wall_before_what_lies_within() {
     assert!(picture.contains("3 outlines, 1 bore"));
     let classes: Vec<&str> = picture.lines().filter_map(|line| line.strip_prefix("<path class=\"")?.split('"').next()).collect();
     assert_eq!(classes[..3], ["outline", "bore", "outline"]);
+}
+
+/// Squares of side 5, 3, 1 and 1 without their corners, which are half a square together, in the order of the sheet.
+const NESTED_AREAS: [[&str; 5]; 4] = [
+    ["outline", "0", "1", "24.500000", "3211264"],
+    ["bore", "1", "2", "-8.500000", "-1114112"],
+    ["outline", "2", "3", "0.500000", "65536"],
+    ["outline", "0", "7", "0.500000", "65536"],
+];
+
+/// The words of the lines below the head of the areas.
+fn area_lines(said: &str) -> Vec<Vec<&str>> {
+    let lines = said.lines().skip_while(|line| !line.starts_with("contour  ")).skip(1);
+    lines.map(|line| line.split_whitespace().collect()).collect()
+}
+
+#[test]
+fn areas_come_in_the_order_of_the_sheet_or_of_the_list() {
+    let folder = Folder::new("areas");
+    folder.put("nested.pbm", NESTED);
+    folder.done(&["slice", "nested.pbm", "-o", "sheet", "--passes", "0", "--tolerance", "0"]);
+    let total = vec!["total", "17.000000", "2228224"];
+    for (words, order) in
+        [(&["check", "nested.pbm", "sheet"][..], [0, 1, 2, 3]), (&["plan", "nested.pbm", "sheet", "-o", "list"], [0, 3, 1, 2])]
+    {
+        let said = folder.done(words);
+        let mut expected: Vec<Vec<&str>> = order.iter().map(|place| NESTED_AREAS[*place].to_vec()).collect();
+        expected.push(total.clone());
+        assert_eq!(area_lines(&said), expected);
+    }
+    folder.done(&["draw", "nested.pbm", "sheet", "-o", "nested.svg"]);
+    let picture = text(&folder.get("nested.svg"));
+    assert_eq!(legend(&picture)[..3], ["outline, inside shaded, area 25.50", "bore, area -8.50", "total 17.00 square samples"]);
+}
+
+#[test]
+fn a_layer_without_contours_has_no_area() {
+    let folder = Folder::new("empty");
+    folder.put("empty.pbm", b"P1 3 2 000 000");
+    folder.done(&["slice", "empty.pbm", "-o", "sheet"]);
+    assert_eq!(area_lines(&folder.done(&["check", "empty.pbm", "sheet"])), [["total", "0.000000", "0"]]);
+    assert_eq!(area_lines(&folder.done(&["plan", "empty.pbm", "sheet", "-o", "list"])), [["total", "0.000000", "0"]]);
+    folder.done(&["draw", "empty.pbm", "sheet", "-o", "empty.svg"]);
+    assert_eq!(legend(&text(&folder.get("empty.svg"))), ["inside sample", "outside sample"]);
+}
+
+#[test]
+fn the_largest_area_stays_in_its_column() {
+    let folder = Folder::new("largest");
+    folder.put("full.pbm", &[&b"P4 1022 1022 "[..], &[0xFF; 1022 * 128]].concat());
+    folder.done(&["slice", "full.pbm", "--pad", "-o", "sheet", "--passes", "0", "--tolerance", "0"]);
+    let said = folder.done(&["check", "full.pbm", "--pad", "sheet"]);
+    // A square of side 1,022 without its corners.
+    let line = "outline         0       1    1044483.500000   136902541312";
+    assert!(said.lines().any(|said| said == line), "{}", said);
 }
 
 #[test]
@@ -308,12 +367,17 @@ fn checks_a_sheet() {
         "contours                1",
         "kept vertices           4",
         "removed vertices        0",
+        "",
+        "contour    column     row    square samples    in 1/131072",
+        "outline         0       1          0.000031              4",
+        "total                              0.000031              4",
     ];
     assert_eq!(figures, expected);
     folder.put("pinned", PINNED);
     let report = folder.done(&["check", &example("sample.layer"), "pinned"]);
-    let vertices: Vec<&str> = report.lines().skip(4).collect();
+    let vertices: Vec<&str> = report.lines().skip(4).take(3).collect();
     assert_eq!(vertices, ["kept vertices           4", "of these pinned         1", "removed vertices        0"]);
+    assert_eq!(area_lines(&report), [vec!["outline", "0", "1", "0.000031", "4"], vec!["total", "0.000031", "4"]]);
     folder.put("removed", &[&SHEET[..11], b"R", &SHEET[12..]].concat());
     let words = folder.fails(1, &["check", &example("sample.layer"), "removed"]);
     let expected = "puzhenim: removed: the layer is not held: contour that starts at stick 2 (question 7)\n\
@@ -330,6 +394,8 @@ fn draws_outlines_and_bores() {
     let picture = text(&folder.get("traced.svg"));
     assert!(picture.contains("24 × 16 samples, 220 inside; 1 outline, 2 bores; vertices: 130 kept, 0 removed"));
     assert!(picture.contains("inside sample") && !picture.contains("removed vertex"));
+    // A rectangle of 22 by 14 without its corners; the bores have 308 - 220 samples, and lose their corners too.
+    assert_eq!(legend(&picture)[..3], ["outline, inside shaded, area 307.50", "bore, area -87.00", "total 220.50 square samples"]);
     folder.done(&["slice", &example("passages.layer"), "-o", "sheet"]);
     folder.done(&["draw", &example("passages.layer"), "sheet", "-o", "sliced.svg"]);
     assert!(text(&folder.get("sliced.svg")).contains("removed vertex"));
@@ -364,16 +430,17 @@ fn draws_pinned_vertices_by_a_mark_of_their_own() {
     assert!(picture.contains("\n.pinned{"));
     // A square has a stroke with a direction.
     assert!(picture.contains("M255 256h.1\"") && !picture.contains("M255 256h0\""));
-    let all = ["outline, inside shaded", "inside sample", "outside sample", "kept vertex", "pinned vertex"];
+    let contours = ["outline, inside shaded, area 0.00", "total 0.00 square samples"];
+    let all = [&contours[..], &["inside sample", "outside sample", "kept vertex", "pinned vertex"]].concat();
     assert_eq!(legend(&picture), all);
     // With all of them pinned, no mark of a kept vertex is to be seen.
     let picture = drawn(b"L\x03\0\x03\0C\0\0\0\x01\0N\xFFN\xFFN\x01N\x01E");
     assert_eq!(marks(&picture, "pinned"), ["M255 256", "M257 256", "M256 255", "M256 257"]);
     assert!(picture.contains("vertices: 4 kept (4 pinned), 0 removed</text>"));
-    assert_eq!(legend(&picture), [&all[..3], &all[4..]].concat());
+    assert_eq!(legend(&picture), [&all[..4], &all[5..]].concat());
     let picture = drawn(SHEET);
     assert!(!picture.contains("pinned"));
-    assert_eq!(legend(&picture), all[..4]);
+    assert_eq!(legend(&picture), all[..5]);
 }
 
 #[test]
@@ -418,6 +485,7 @@ fn help_and_version() {
     }
     assert!(all.contains("(1 to 16)"));
     assert!(folder.done(&["roll", "--help"]).contains("P and a stick pin one"));
+    assert!(folder.done(&["check", "--help"]).contains("in 1/131072 of a square sample"));
     assert_eq!(folder.done(&["--version"]), format!("puzhenim {}\n", env!("CARGO_PKG_VERSION")));
 }
 

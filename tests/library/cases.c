@@ -1,5 +1,5 @@
-/* The exported library from C: the paper's single sample, from the bitmap to its sheet, the figures of refusals as the header has them, and a
- * pinned vertex. Silent if all is right. */
+/* The exported library from C: the paper's single sample, from the bitmap to its sheet, the figures of refusals as the header has them, a pinned
+ * vertex, and areas. Silent if all is right. */
 #include "../../include/puzhenim.h"
 #include <stdio.h>
 #include <string.h>
@@ -15,6 +15,36 @@ static int expect(int right, const char *what) {
     return right;
 }
 
+/* The area of the single sample: its vertices are the ends of a diagonal in a row and of one in a column, and twice the area is their product. */
+static int area_of_sample(void) {
+    const uint8_t bitmap[3] = {0, 2, 0};
+    uint16_t table[12] = {0, 0, 128, 128, 0, 0, 0, 128, 0, 0, 128, 0};
+    int64_t areas[2] = {-1, -1};
+    uint64_t figures[4] = {9, 9, 9, 9};
+    int good = expect(pz_areas(LAYER, TABLE, areas, 1, figures, 3) == 14 && ARE(9, 9, 9, 9) && areas[0] == -1, "three figures");
+    good &= expect(pz_areas(LAYER, TABLE, NULL, 0, FIGURES) == 14 && ARE(0, 0, 0, 0), "no room for an area");
+    good &= expect(pz_areas(LAYER, TABLE, areas, 1, FIGURES) == 0 && ARE(0, 1, 256 * 256, 0) && areas[0] == 256 * 256, "the area");
+    table[2] = 512 + 100, table[3] = 200, table[7] = 50, table[10] = 512 + 30;
+    good &= expect(pz_areas(LAYER, TABLE, areas, 2, FIGURES) == 0 && ARE(0, 1, 356 * 236, 0) && areas[0] == 356 * 236, "the area with pins");
+    good &= expect(areas[1] == -1, "past the areas");
+    table[10] = 256 + 128;
+    good &= expect(pz_areas(LAYER, TABLE, NULL, 0, FIGURES) == 7 && ARE(2, 0, 0, 0), "7 before 14");
+    return good;
+}
+
+/* A ring of 3 by 3 samples as traced: nine square pitches less an eighth at each corner, and a bore of half a square pitch. */
+static int areas_of_ring(void) {
+    const uint8_t bitmap[5] = {0, 0x0E, 0x0A, 0x0E, 0};
+    uint16_t table[40];
+    int64_t areas[3] = {-1, -1, -1};
+    uint64_t figures[4];
+    int good = expect(pz_trace(5, 5, bitmap, 5, table, 40, FIGURES) == 0, "trace of a ring");
+    good &= expect(pz_areas(5, 5, bitmap, 5, table, 40, areas, 1, FIGURES) == 14 && ARE(0, 0, 0, 0) && areas[0] == -1, "one area short");
+    good &= expect(pz_areas(5, 5, bitmap, 5, table, 40, areas, 3, FIGURES) == 0 && ARE(0, 2, 16 * 65536, 0), "the areas of a ring");
+    good &= expect(areas[0] == 17 * 65536 && areas[1] == -65536 && areas[2] == -1, "an outline and a bore");
+    return good;
+}
+
 int main(void) {
     const uint8_t bitmap[3] = {0, 2, 0}, spare[3] = {0, 10, 0};
     const uint8_t expected[20] = {0x4C, 3, 0, 3, 0, 0x43, 0, 0, 0, 1, 0, 0x4B, 255, 0x4B, 255, 0x4B, 1, 0x4B, 1, 0x45};
@@ -24,7 +54,7 @@ int main(void) {
     uint8_t sheet[21], items[8];
     double points[8];
     uint64_t figures[4];
-    int good = 1;
+    int good = area_of_sample() & areas_of_ring();
     memset(sheet, 0xAA, sizeof sheet);
     good &= expect(pz_counts(LAYER, TABLE, FIGURES) == 0 && figures[1] == 1 && figures[2] == 4 && figures[3] == 1, "counts");
     good &= expect(pz_trace(LAYER, TABLE, FIGURES) == 0 && table[2] == 128 && table[0] == 0, "trace");

@@ -28,6 +28,7 @@ declare! {
     pz_write_sheet(table: *const u16, entries: usize, sheet: *mut u8, length: usize);
     pz_read_sheet(table: *mut u16, entries: usize, sheet: *const u8, length: usize);
     pz_plan(table: *const u16, entries: usize, items: *mut u8, item_count: usize, points: *mut f64, float_count: usize);
+    pz_areas(table: *const u16, entries: usize, areas: *mut i64, area_count: usize);
 }
 
 extern "C" {
@@ -38,6 +39,7 @@ extern "C" {
 const FIGURE_BEFORE: u64 = 0xA5A5_A5A5_A5A5_A5A5;
 const BYTE_BEFORE: u8 = 0xAA;
 const FLOAT_BEFORE: f64 = -1.0;
+const AREA_BEFORE: i64 = -1;
 const GUARD: usize = 8;
 
 /// A buffer between two guards.
@@ -77,6 +79,21 @@ struct Buffers {
     table: Lent<u16>,
     bytes: Lent<u8>,
     floats: Lent<f64>,
+    areas: Lent<i64>,
+}
+
+impl Buffers {
+    fn stand(&self) -> bool {
+        self.table.stands() && self.bytes.stands() && self.floats.stands() && self.areas.stands()
+    }
+}
+
+/// How long the outputs of a call are.
+#[derive(Default)]
+struct Lengths {
+    bytes: usize,
+    floats: usize,
+    areas: usize,
 }
 
 struct State {
@@ -107,18 +124,18 @@ fn digest(numbers: impl Iterator<Item = u16>) -> u64 {
     numbers.fold(1, |digest, number| (digest * 65599 + u64::from(number) + 1) % 2_147_483_647)
 }
 
-fn pieces(float: &f64) -> [u16; 4] {
-    let bits = float.to_bits();
+fn pieces(bits: u64) -> [u16; 4] {
     [bits as u16, (bits >> 16) as u16, (bits >> 32) as u16, (bits >> 48) as u16]
 }
 
 impl State {
     /// The number, place and figures of a call with so many figures of its own, and what it leaves.
-    fn made(&mut self, own: usize, bytes: usize, floats: usize, call: Call) -> (String, Buffers) {
+    fn made(&mut self, own: usize, outputs: Lengths, call: Call) -> (String, Buffers) {
         let before = Buffers {
             table: Lent::new(&self.table, 0x5A5A),
-            bytes: Lent::new(&vec![BYTE_BEFORE; bytes], 0x5A),
-            floats: Lent::new(&vec![FLOAT_BEFORE; floats], -2.0),
+            bytes: Lent::new(&vec![BYTE_BEFORE; outputs.bytes], 0x5A),
+            floats: Lent::new(&vec![FLOAT_BEFORE; outputs.floats], -2.0),
+            areas: Lent::new(&vec![AREA_BEFORE; outputs.areas], -2),
         };
         let mut after = before.clone();
         let mut short = [FIGURE_BEFORE; 3];
@@ -128,7 +145,7 @@ impl State {
         let number = call(self, &mut after, &mut figures);
         assert_eq!(figures[4..], [FIGURE_BEFORE; 2], "figures past the fourth stay");
         assert!(figures[1 + own..4].iter().all(|figure| *figure == 0), "the rest are 0");
-        assert!(after.table.stands() && after.bytes.stands() && after.floats.stands(), "the guards stand");
+        assert!(after.stand(), "the guards stand");
         self.table = after.table.slice().to_vec();
         let words: Vec<String> = figures[..1 + own].iter().map(|figure| figure.to_string()).collect();
         (format!("{} {}", number, words.join(" ")), after)
@@ -140,13 +157,13 @@ impl State {
 
     /// The line of a call that has no output but its figures and the table.
     fn plain(&mut self, letter: char, own: usize, call: Call) -> String {
-        let words = self.made(own, 0, 0, call).0;
+        let words = self.made(own, Lengths::default(), call).0;
         self.line(letter, words)
     }
 
     fn write_sheet(&mut self, n: usize) -> String {
         let call = call!(pz_write_sheet, |b: &mut Buffers| b.bytes.pointer(), |b: &mut Buffers| b.bytes.len());
-        let (words, after) = self.made(1, n, 0, &call);
+        let (words, after) = self.made(1, Lengths { bytes: n, ..Lengths::default() }, &call);
         self.line('W', format!("{} {}", words, digest(after.bytes.slice().iter().map(|byte| u16::from(*byte)))))
     }
 
@@ -158,9 +175,16 @@ impl State {
             |b: &mut Buffers| b.floats.pointer(),
             |b: &mut Buffers| b.floats.len()
         );
-        let (words, after) = self.made(2, items, floats, &call);
+        let (words, after) = self.made(2, Lengths { bytes: items, floats, ..Lengths::default() }, &call);
         let bytes = digest(after.bytes.slice().iter().map(|byte| u16::from(*byte)));
-        self.line('L', format!("{} {} {}", words, bytes, digest(after.floats.slice().iter().flat_map(pieces))))
+        let points = digest(after.floats.slice().iter().flat_map(|float| pieces(float.to_bits())));
+        self.line('L', format!("{} {} {}", words, bytes, points))
+    }
+
+    fn areas(&mut self, n: usize) -> String {
+        let call = call!(pz_areas, |b: &mut Buffers| b.areas.pointer(), |b: &mut Buffers| b.areas.len());
+        let (words, after) = self.made(2, Lengths { areas: n, ..Lengths::default() }, &call);
+        self.line('A', format!("{} {}", words, digest(after.areas.slice().iter().flat_map(|area| pieces(*area as u64)))))
     }
 
     /// The view is lent no table.
@@ -209,6 +233,7 @@ impl State {
                 self.plain('D', 0, &call!(pz_read_sheet, sheet, |_: &mut Buffers| bytes.len()))
             }
             Command::Planner { items, floats } => self.plan(*items as usize, *floats as usize),
+            Command::Areas { n } => self.areas(*n as usize),
             Command::View { column, row } => self.sample(*column, *row),
             other => panic!("the library has no call {}", other.letter() as char),
         }

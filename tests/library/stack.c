@@ -19,6 +19,7 @@
 static uint8_t bitmap[SIDE * SIDE / 8], sheet[4 * EDGES], roll[7 * EDGES + 7], items[2 * EDGES];
 static uint16_t table[EDGES], before[EDGES];
 static double points[2 * EDGES];
+static int64_t areas[EDGES / 4];
 static uint64_t figures[4];
 static size_t sheet_len, roll_len;
 static uint8_t *stack, *start;
@@ -35,6 +36,7 @@ static uint32_t edit(void) { return pz_roll(LAYER, TABLE, roll, roll_len, 255, F
 static uint32_t write_sheet(void) { return pz_write_sheet(LAYER, TABLE, sheet, sizeof sheet, FIGURES); }
 static uint32_t read_sheet(void) { return pz_read_sheet(LAYER, TABLE, sheet, sheet_len, FIGURES); }
 static uint32_t plan(void) { return pz_plan(LAYER, TABLE, items, sizeof items, points, 2 * EDGES, FIGURES); }
+static uint32_t measure(void) { return pz_areas(LAYER, TABLE, areas, EDGES / 4, FIGURES); }
 static uint32_t sample(void) { return pz_sample(LAYER, 1, 1, FIGURES); }
 
 /* A call, and the most stack that the header grants it. */
@@ -47,7 +49,7 @@ typedef struct {
 static const Call COUNTS = {"pz_counts", counts, 132 * 1024}, TRACE = {"pz_trace", trace, 1024}, SMOOTH = {"pz_smooth", smooth, 132 * 1024},
                   SIMPLIFY = {"pz_simplify", simplify, 258 * 1024}, ROLL = {"pz_roll", edit, 132 * 1024},
                   WRITE = {"pz_write_sheet", write_sheet, 132 * 1024}, READ = {"pz_read_sheet", read_sheet, 132 * 1024},
-                  PLAN = {"pz_plan", plan, 265 * 1024}, SAMPLE = {"pz_sample", sample, 1024};
+                  PLAN = {"pz_plan", plan, 265 * 1024}, AREAS = {"pz_areas", measure, 132 * 1024}, SAMPLE = {"pz_sample", sample, 1024};
 
 static const char *layer;
 static int shows;
@@ -141,9 +143,60 @@ static uint64_t movement(void) {
     return total;
 }
 
-/* All calls on a layer of so many contours. */
-static void all_calls(const char *name, uint64_t contours) {
-    uint64_t samples = 0, sticks = 0;
+/* Twice what the contours of a traced layer enclose, square by square: an inside corner that is cut off has an eighth of a square pitch. */
+static int64_t traced_area(void) {
+    int64_t eighths = 0;
+    for (size_t r = 0; r + 1 < SIDE; r++)
+        for (size_t c = 0; c + 1 < SIDE; c++) {
+            size_t one = inside(c, r) + inside(c + 1, r + 1), other = inside(c + 1, r) + inside(c, r + 1);
+            eighths += one + other == 2 ? (one == 1 ? 4 : 2) : one + other == 3 ? 7 : one + other == 4 ? 8 : one + other;
+        }
+    return 2 * 65536 / 8 * eighths;
+}
+
+static int64_t coordinate(size_t k) { return (int64_t)(256 * points[k]); }
+
+/* Twice what the contours of a list of so many items enclose, by the trapezoids between their edges and x = 0. */
+static int64_t listed_area(size_t count) {
+    int64_t area = 0;
+    size_t first = 0, last = 0, next = 0;
+    for (size_t i = 0; i < count; i++) {
+        size_t to = items[i] == 'Z' ? first : next++;
+        if (items[i] == 'M') first = to;
+        else area += (coordinate(2 * last) + coordinate(2 * to)) * (coordinate(2 * to + 1) - coordinate(2 * last + 1));
+        last = to;
+    }
+    return area;
+}
+
+/* The areas: those of outlines are above 0 and those of bores below, they add up to the total, and what is past them stays. */
+static void measured(uint64_t outlines, uint64_t bores, int64_t total) {
+    uint64_t contours = outlines + bores, above = 0, below = 0, stay = 0;
+    int64_t sum = 0;
+    memset(areas, 0xFF, sizeof areas);
+    make(&AREAS), answered(&AREAS, contours, total, 0);
+    for (size_t i = 0; i < contours; i++) above += areas[i] > 0, below += areas[i] < 0, sum += areas[i];
+    for (size_t i = contours; i < EDGES / 4; i++) stay += areas[i] == -1;
+    expect(above == outlines && below == bores && sum == total, "pz_areas", "other areas");
+    expect(stay == EDGES / 4 - contours, "pz_areas", "more areas");
+}
+
+/* The sheet, read back over another table, and the list, with so many vertices kept; the areas are those of the list's contours. */
+static void write_and_read(uint64_t outlines, uint64_t bores, uint64_t sticks, uint64_t kept) {
+    uint64_t contours = outlines + bores;
+    memcpy(before, table, sizeof table);
+    sheet_len = 6 + 6 * contours + 2 * sticks;
+    make(&WRITE), answered(&WRITE, sheet_len, 0, 0);
+    memset(table, 7, sizeof table);
+    make(&READ), answered(&READ, 0, 0, 0);
+    expect(!memcmp(before, table, sizeof table), "pz_read_sheet", "another table");
+    make(&PLAN), answered(&PLAN, kept + contours, 2 * kept, 0);
+    measured(outlines, bores, listed_area(kept + contours));
+}
+
+/* All calls on a layer of so many outlines and bores. */
+static void all_calls(const char *name, uint64_t outlines, uint64_t bores) {
+    uint64_t samples = 0, sticks = 0, contours = outlines + bores;
     layer = name;
     fill_bitmap();
     for (size_t r = 0; r + 1 < SIDE; r++)
@@ -155,6 +208,7 @@ static void all_calls(const char *name, uint64_t contours) {
     make(&COUNTS), answered(&COUNTS, samples, sticks, contours);
     make(&TRACE), answered(&TRACE, 0, 0, 0);
     expect(entries(128, 128) == sticks && entries(0, 0) == EDGES - sticks, "pz_trace", "another table");
+    measured(outlines, bores, traced_area());
     /* Between two kept vertices there is no stick to cross. */
     fill_roll('S', 100);
     make(&ROLL), answered(&ROLL, sticks, 0, 0);
@@ -176,13 +230,7 @@ static void all_calls(const char *name, uint64_t contours) {
     fill_roll('P', 0);
     make(&ROLL), answered(&ROLL, kept, 0, 0);
     expect(entries(513, 767) == kept && entries(1, 255) == 0, "pz_roll", "not every kept vertex is pinned");
-    memcpy(before, table, sizeof table);
-    sheet_len = 6 + 6 * contours + 2 * sticks;
-    make(&WRITE), answered(&WRITE, sheet_len, 0, 0);
-    memset(table, 7, sizeof table);
-    make(&READ), answered(&READ, 0, 0, 0);
-    expect(!memcmp(before, table, sizeof table), "pz_read_sheet", "another table");
-    make(&PLAN), answered(&PLAN, kept + contours, 2 * kept, 0);
+    write_and_read(outlines, bores, sticks, kept);
 }
 
 int main(int argc, char **argv) {
@@ -191,11 +239,12 @@ int main(int argc, char **argv) {
     uint8_t *memory = mmap(NULL, PAGE + STACK, PROT_NONE, MAP_PRIVATE | MAP_ANONYMOUS, -1, 0);
     stack = memory + PAGE;
     if (memory == MAP_FAILED || mprotect(stack, STACK, PROT_READ | PROT_WRITE)) return 1;
-    /* The contours are the connected parts: of inside samples by sides, of outside ones by sides and corners, less the outermost. */
-    all_calls("checkerboard", 522242);
-    all_calls("serpentine", 1);
-    all_calls("passages", 1009);
-    all_calls("squares", SIDE / 2 - 1);
-    all_calls("noise", 69357 + 3408 - 1);
+    /* Outlines go around the connected parts of inside samples, by sides; bores around those of outside ones, by sides and corners, but for
+     * the outermost. */
+    all_calls("checkerboard", 522242, 0);
+    all_calls("serpentine", 1, 0);
+    all_calls("passages", 1, 1008);
+    all_calls("squares", SIDE / 4, SIDE / 4 - 1);
+    all_calls("noise", 69357, 3408 - 1);
     return 0;
 }

@@ -94,12 +94,19 @@ fn pinned(entry: u16) -> bool {
 
 /// Where the vertex of a stick lies: at its offset, in 1/256 of the way from one
 /// sample to the other.
-pub fn vertex(layer: &Layer, table: &[u16], stick: usize) -> Point {
+fn vertex(layer: &Layer, table: &[u16], stick: usize) -> Point {
     let [a, b] = samples(layer, stick);
     let offset = table[stick] as i128 & 255;
     let x = a.x + (b.x - a.x) / 256 * offset;
     let y = a.y + (b.y - a.y) / 256 * offset;
     Point { x, y }
+}
+
+/// The kept vertices of a contour in the order of its walk, in 1/256 of the pitch.
+pub fn polygon(layer: &Layer, table: &[u16], contour: &[usize]) -> Vec<(i64, i64)> {
+    let kept = contour.iter().filter(|&&stick| kept(table[stick]));
+    let vertices = kept.map(|&stick| vertex(layer, table, stick));
+    vertices.map(|p| (p.x as i64, p.y as i64)).collect()
 }
 
 /// A drawn edge: the sticks of its two kept vertices and the removed ones between.

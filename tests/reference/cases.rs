@@ -1,6 +1,7 @@
 // The cases of the paper's section 'Cases', starred or not, each with the
 // figures it gives, the layer program's example, and cases of the changes.
 
+use crate::areas_cases;
 use crate::contour::{contours, Contour};
 use crate::depth::depths;
 use crate::layer::Layer;
@@ -333,7 +334,7 @@ fn order() -> Vec<Check> {
     ]
 }
 
-/// What is wrong with these cases, those of the questions' places, or those of Note 5.
+/// What is wrong with these cases, those of the questions' places, or those of Notes 5 and 6.
 pub fn wrong() -> Vec<String> {
     let groups = vec![
         single_sample(),
@@ -348,6 +349,7 @@ pub fn wrong() -> Vec<String> {
         order(),
         places::checks(),
         pins_cases::checks(),
+        areas_cases::checks(),
     ];
     let checks = groups.iter().flatten();
     checks

@@ -1,6 +1,7 @@
 // What runs a script: W, H, a bitmap and a table, the calls on them, and the
 // line that answers each call.
 
+use crate::areas::areas;
 use crate::hold::ask_1_to_7;
 use crate::layer::Refusal;
 use crate::planner::planner;
@@ -15,6 +16,7 @@ use crate::trace::{counts, trace, View};
 /// What fills a lent output before the call.
 const BYTE_BEFORE: u8 = 0xAA;
 const FLOAT_BEFORE: f64 = -1.0;
+pub const AREA_BEFORE: i64 = -1;
 
 /// "At first 0, 0 and empty."
 #[derive(Default, Clone)]
@@ -66,18 +68,19 @@ fn digest_bytes(bytes: &[u8]) -> u64 {
     digest(bytes.iter().map(|&byte| byte as u16))
 }
 
-/// Of each float the four 16-bit pieces of its bits, the lowest first.
+/// Of each number of 64 bits its four 16-bit pieces, the lowest first.
+fn digest_bits(numbers: impl Iterator<Item = u64>) -> u64 {
+    let pieces = |bits: u64| [0, 16, 32, 48].map(|shift| (bits >> shift) as u16);
+    digest(numbers.flat_map(pieces))
+}
+
 fn digest_floats(floats: &[f64]) -> u64 {
-    let pieces = |float: &f64| {
-        let bits = float.to_bits();
-        [
-            bits as u16,
-            (bits >> 16) as u16,
-            (bits >> 32) as u16,
-            (bits >> 48) as u16,
-        ]
-    };
-    digest(floats.iter().flat_map(pieces))
+    digest_bits(floats.iter().map(|float| float.to_bits()))
+}
+
+/// Areas as two's complement has them.
+fn digest_areas(areas: &[i64]) -> u64 {
+    digest_bits(areas.iter().map(|&area| area as u64))
 }
 
 impl Machine {
@@ -116,6 +119,7 @@ impl Machine {
             Command::WriteSheet { n } => self.write_sheet(*n as usize),
             Command::ReadSheet { bytes } => self.read_sheet(bytes),
             Command::Planner { items, floats } => self.planner(*items as usize, *floats as usize),
+            Command::Areas { n } => self.areas(*n as usize),
             Command::View { column, row } => self.view(*column, *row),
             Command::Program { bytes } => {
                 let written = program(bytes);
@@ -191,6 +195,15 @@ impl Machine {
         let outcome = planner(self.w, self.h, bitmap, table, &mut items, &mut floats);
         let figures = outcome.map(|done| vec![done.items as u64, done.floats as u64]);
         Answer::new(figures, 2).and(&[digest_bytes(&items), digest_floats(&floats)])
+    }
+
+    /// The total stands in two's complement. The digest is that of the whole output,
+    /// also if the call is refused.
+    fn areas(&self, n: usize) -> Answer {
+        let mut output = vec![AREA_BEFORE; n];
+        let outcome = areas(self.w, self.h, &self.bitmap, &self.table, &mut output);
+        let figures = outcome.map(|done| vec![done.contours as u64, done.total as u64]);
+        Answer::new(figures, 2).and(&[digest_areas(&output)])
     }
 
     fn view(&self, column: u16, row: u16) -> Answer {

@@ -2,6 +2,9 @@
 // changes, written from these alone, and the vectors that both are run on.
 // Build: rustc -O --edition 2021 -o reference tests/reference/main.rs
 
+mod areas;
+mod areas_cases;
+mod areas_checks;
 mod brute;
 mod builder;
 mod cases;
@@ -27,6 +30,7 @@ mod refusals;
 mod roll;
 mod script;
 mod sets;
+mod sets_areas;
 mod sets_bitmap;
 mod sets_lists;
 mod sets_pending;

@@ -1,7 +1,7 @@
 // Slow checks of the planner's list, which share nothing with the depths of the
 // call: how often a contour winds around a sample, and what follows for the order.
 
-use crate::brute::vertex;
+use crate::brute::polygon;
 use crate::contour::{contours, Contour};
 use crate::hold::is_kept;
 use crate::layer::Layer;
@@ -10,21 +10,22 @@ use crate::planner::planner;
 /// The points of a contour in the list, x and y in samples.
 type Points = Vec<(f64, f64)>;
 
-/// The middle of a stick, in halves of the pitch.
-fn middle(layer: &Layer, stick: usize) -> (i64, i64) {
-    let [a, b] = layer.edge(stick).ends();
-    ((a.0 + b.0) as i64, (a.1 + b.1) as i64)
+/// The middle of each stick of a contour, in halves of the pitch.
+fn middles(layer: &Layer, contour: &Contour) -> Vec<(i64, i64)> {
+    let middle = |&stick: &usize| {
+        let [a, b] = layer.edge(stick).ends();
+        ((a.0 + b.0) as i64, (a.1 + b.1) as i64)
+    };
+    contour.iter().map(middle).collect()
 }
 
-/// How often the polygon through the middles of the contour's sticks winds around
-/// a sample: the edges that pass a ray to the right, upward ones as plus one. The
-/// lower end of an edge belongs to it, the upper one does not.
-fn turns(layer: &Layer, contour: &[usize], (c, r): (usize, usize)) -> i64 {
-    let (x, y) = (2 * c as i64, 2 * r as i64);
-    let after = contour.iter().cycle().skip(1);
+/// How often a closed polygon winds around a point that is not on it: the edges that
+/// pass a ray to the right, upward ones as plus one. The lower end of an edge belongs
+/// to it, the upper one does not.
+pub fn turns(polygon: &[(i64, i64)], (x, y): (i64, i64)) -> i64 {
+    let after = polygon.iter().cycle().skip(1);
     let mut turns = 0;
-    for (&from, &to) in contour.iter().zip(after) {
-        let ((ax, ay), (bx, by)) = (middle(layer, from), middle(layer, to));
+    for (&(ax, ay), &(bx, by)) in polygon.iter().zip(after) {
         let left_of_edge = (bx - ax) * (y - ay) - (by - ay) * (x - ax);
         turns += (ay <= y && y < by && left_of_edge > 0) as i64;
         turns -= (by <= y && y < ay && left_of_edge < 0) as i64;
@@ -35,10 +36,15 @@ fn turns(layer: &Layer, contour: &[usize], (c, r): (usize, usize)) -> i64 {
 /// The places of the other contours around the one at this place; nothing if the
 /// ends of its sticks do not agree on them.
 fn others_around(layer: &Layer, contours: &[Contour], place: usize) -> Option<Vec<usize>> {
-    let around = |end: (usize, usize)| -> Vec<usize> {
+    let polygons: Vec<Vec<(i64, i64)>> = contours
+        .iter()
+        .map(|contour| middles(layer, contour))
+        .collect();
+    let around = |(c, r): (usize, usize)| -> Vec<usize> {
+        let sample = (2 * c as i64, 2 * r as i64);
         let others = (0..contours.len()).filter(|&other| other != place);
         others
-            .filter(|&other| turns(layer, &contours[other], end) != 0)
+            .filter(|&other| turns(&polygons[other], sample) != 0)
             .collect()
     };
     let sticks = contours[place].iter();
@@ -74,10 +80,9 @@ fn taken_apart(items: &[u8], floats: &[f64]) -> Option<Vec<Points>> {
 
 /// The kept vertices of a contour in the order of its walk.
 fn points_of(layer: &Layer, table: &[u16], contour: &Contour) -> Points {
-    let kept = contour.iter().filter(|&&stick| is_kept(table[stick]));
-    let vertices = kept.map(|&stick| vertex(layer, table, stick));
-    vertices
-        .map(|point| (point.x as f64 / 256.0, point.y as f64 / 256.0))
+    polygon(layer, table, contour)
+        .into_iter()
+        .map(|(x, y)| (x as f64 / 256.0, y as f64 / 256.0))
         .collect()
 }
 

@@ -153,9 +153,12 @@ fn as_kept(wrong: &mut Wrong, b: &mut Builder) {
             .iter()
             .filter(|&&entry| entry != 0 && entry < 256);
         let floats = 2 * kept.count() as u32;
-        let items = floats / 2 + contours.len() as u32;
+        let n = contours.len() as u32;
+        let items = floats / 2 + n;
         let mut calls = vec![
             Command::Counts,
+            Command::Areas { n },
+            Command::Areas { n: n - 1 },
             Command::Planner { items, floats },
             Command::Planner {
                 items: items - 1,

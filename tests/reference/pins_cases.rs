@@ -40,7 +40,7 @@ fn case(
 }
 
 /// All sticks of the single sample, in the order of its contour.
-const SINGLE_STICKS: [usize; 4] = [2, 7, 3, 10];
+pub const SINGLE_STICKS: [usize; 4] = [2, 7, 3, 10];
 
 /// The bar's: its left end, its lower side from left to right, its right end, and its upper
 /// side from right to left.
@@ -48,11 +48,11 @@ const BAR_STICKS: [usize; 8] = [4, 13, 14, 15, 7, 20, 19, 18];
 
 /// A bar of six samples: its left end is 7, its lower side 22 to 27, its right end 13, and
 /// its upper side 35 down to 30.
-const LONG_BAR: &str = "........ .######. ........";
+pub const LONG_BAR: &str = "........ .######. ........";
 
-const RING: &str = "..... .###. .#.#. .###. .....";
-const RING_OUTLINE: [usize; 12] = [4, 21, 22, 23, 7, 11, 15, 38, 37, 36, 12, 8];
-const RING_BORE: [usize; 4] = [9, 32, 10, 27];
+pub const RING: &str = "..... .###. .#.#. .###. .....";
+pub const RING_OUTLINE: [usize; 12] = [4, 21, 22, 23, 7, 11, 15, 38, 37, 36, 12, 8];
+pub const RING_BORE: [usize; 4] = [9, 32, 10, 27];
 
 /// These sticks with the vertex pinned at 128.
 fn pinned(sticks: &[usize]) -> Vec<(usize, u16)> {

@@ -2,6 +2,7 @@
 // set is one more line and a function.
 
 use crate::builder::Builder;
+use crate::sets_areas;
 use crate::sets_bitmap;
 use crate::sets_lists;
 use crate::sets_pins;
@@ -14,7 +15,7 @@ pub struct Set {
     fill: fn(&mut Builder),
 }
 
-pub const SETS: [Set; 13] = [
+pub const SETS: [Set; 14] = [
     Set {
         name: "trace",
         seed: 101,
@@ -64,6 +65,11 @@ pub const SETS: [Set; 13] = [
         name: "pins",
         seed: 113,
         fill: sets_pins::pins,
+    },
+    Set {
+        name: "areas",
+        seed: 114,
+        fill: sets_areas::areas,
     },
     Set {
         name: "lists",

@@ -89,27 +89,29 @@ fn every_call(b: &mut Builder, layer: &Layer) {
         items,
         floats: items,
     });
+    b.add(Command::Areas { n: items });
     b.table(layer.edge_count());
     b.add(Command::ReadSheet { bytes });
 }
 
-/// The planner's list of the layer that is set.
-fn whole_list(b: &mut Builder) {
+/// The planner's list of the layer that is set, and its areas.
+fn list_and_areas(b: &mut Builder) {
     let items = 2 * b.sticks().len() as u32;
     b.add(Command::Planner {
         items,
         floats: items,
     });
+    b.add(Command::Areas { n: 512 });
 }
 
 /// As many contours one in the other as a layer can have, with first vertices removed, and simplified.
 fn deepest(b: &mut Builder) {
     b.traced(&picture::frames(1024, 1024));
     b.remove_firsts(3);
-    whole_list(b);
+    list_and_areas(b);
     b.add(Command::Trace);
     b.add(Command::Simplify { t: 255 });
-    whole_list(b);
+    list_and_areas(b);
 }
 
 /// A roll of one edit of a stick.

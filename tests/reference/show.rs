@@ -91,6 +91,7 @@ fn command(command: &Command) -> String {
                 items, floats
             )
         }
+        Command::Areas { n } => format!("areas into {} numbers\n", n),
         Command::View { column, row } => format!("view of column {}, row {}\n", column, row),
         Command::Program { bytes } => {
             format!("layer program on {} bytes\n", bytes.len()) + &hex(bytes)

@@ -1,6 +1,7 @@
 // The reference's own test: the paper's cases, random layers and calls against
 // slow checks, and the sets of vectors.
 
+use crate::areas_checks;
 use crate::brute::{self, Stroke};
 use crate::builder::Builder;
 use crate::cases::{self, call, traced};
@@ -431,7 +432,7 @@ fn wanted_numbers(name: &str) -> Vec<u64> {
         "smooth" | "simplify" => vec![0, 1, 2, 3, 4, 5, 6, 7, 15],
         "roll" => vec![0, 1, 2, 3, 4, 5, 6, 7, 8, 9, 10, 11, 12],
         "sheet" => vec![0, 1, 2, 3, 4, 5, 6, 7, 8, 14],
-        "planner" => vec![0, 1, 2, 3, 4, 5, 6, 7, 14],
+        "planner" | "areas" => vec![0, 1, 2, 3, 4, 5, 6, 7, 14],
         "pins" => vec![0, 6, 7, 8, 9, 10, 11, 12, 14, 15, 16],
         _ => vec![0],
     }
@@ -569,6 +570,7 @@ fn is_main(name: &str, line: &str) -> bool {
         "sheet" => "WD",
         "planner" => "L",
         "pins" => "TNSYRWDL",
+        "areas" => "A",
         "lists" | "large" => "TDSYR",
         _ => "G",
     };
@@ -592,6 +594,7 @@ pub fn wrong(seed: Option<u64>) -> Vec<String> {
     wrong.extend(pending::wrong(rng.next()));
     wrong.extend(pins::wrong(rng.next()));
     wrong.extend(pins_vectors::wrong());
+    wrong.extend(areas_checks::wrong(rng.next()));
     stops(&mut wrong);
     order_shows(&mut wrong);
     wrong

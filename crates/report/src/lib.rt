@@ -14,5 +14,6 @@ pub use answers::traced_report;
 pub use answers::written_report;
 pub use report::Report;
 pub use report::done_report;
+pub use report::figure_of;
 pub use report::put_report;
 pub use report::refused_report;

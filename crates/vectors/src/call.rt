@@ -1,7 +1,8 @@
-// The calls of the library that a script makes: T is Trace, N is Counts, H is questions 1 to 7, S is Smooth, Y is Simplify; W,
-// D, R and L stand in text.rt. A call says whether the script is right there.
+// The calls of the library that a script makes: T is Trace, N is Counts, H is questions 1 to 7, S is Smooth, Y is Simplify; A
+// stands in measure.rt, W, D, R and L in text.rt. A call says whether the script is right there.
 use super::digest::digest_of;
 use super::line;
+use super::measure::areas_call;
 use super::script;
 use super::state;
 use super::state::State;
@@ -33,6 +34,7 @@ fn make(bitmap: &[u8], table: &mut [u16], state: State) -> bool {
         b'H' => held_call(bitmap, table, state),
         b'S' => smooth_call(bitmap, table, state),
         b'Y' => simplify_call(bitmap, table, state),
+        b'A' => areas_call(bitmap, table, state),
         _ => text_call(bitmap, table, state),
     }
 }

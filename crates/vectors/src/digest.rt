@@ -83,3 +83,21 @@ pub fn digest_floats(floats: &[f64]) -> usize {
     }
     h
 }
+
+fn mix_signed(h: usize, x: i64) -> usize
+    requires { ⌜ h < 2147483647 ⌝ }
+    ensures { λ r. ⌜ r < 2147483647 ⌝ }
+{
+    mix_bits(h, report::figure_of(x))
+}
+
+pub fn digest_signed(numbers: &[i64]) -> usize {
+    let mut h = 1;
+    let mut i = 0;
+    while i < numbers.len() {
+        let x = numbers[i];
+        h = mix_signed(h, x);
+        i += 1;
+    }
+    h
+}

@@ -15,6 +15,7 @@ fn figures(letter: u8) -> usize {
         b'W' => 1,
         b'Y' => 2,
         b'L' => 2,
+        b'A' => 2,
         b'N' => 3,
         b'S' => 3,
         _ => 0,

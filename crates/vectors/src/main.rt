@@ -4,6 +4,7 @@ mod call;
 mod command;
 mod digest;
 mod line;
+mod measure;
 mod script;
 mod state;
 mod text;

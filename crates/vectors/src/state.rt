@@ -41,6 +41,7 @@ fn first_width(letter: u8) -> usize
         b'R' => 1,
         b'W' => 4,
         b'L' => 4,
+        b'A' => 4,
         _ => 0,
     }
 }

@@ -1,5 +1,6 @@
 //! The commands: each reads its files, calls the library and writes its outputs.
 
+use crate::areas;
 use crate::args::Args;
 use crate::failure::Failure;
 use crate::files;
@@ -7,7 +8,7 @@ use crate::help;
 use crate::job::Job;
 use crate::picture;
 use crate::progress::Progress;
-use puzhenim::{Counts, Item, Kind, List, Refusal, Vertex};
+use puzhenim::{Counts, Item, Kind, Layer, List, Refusal, Vertex};
 use std::ffi::OsStr;
 use std::path::Path;
 
@@ -101,7 +102,7 @@ fn plan(args: &Args) -> Result<(), Failure> {
     let table = job.read_sheet(&progress)?;
     progress.step("planning");
     let list = job.layer().list(&table).map_err(|refusal| job.refused(refusal))?;
-    let kinds = job.layer().kinds().map_err(|refusal| job.refused(refusal))?;
+    let text = plan_figures(job.layer(), &table).map_err(|refusal| job.refused(refusal))?;
     progress.step("writing");
     match points {
         None => files::write(&[(output, as_text(&list).as_bytes())])?,
@@ -111,9 +112,15 @@ fn plan(args: &Args) -> Result<(), Failure> {
         }
     }
     drop(progress);
-    let outlines = kinds.iter().filter(|kind| **kind == Kind::Outline).count();
-    let text = format!("outlines: {}, bores: {}, each after those around it\n", outlines, kinds.len() - outlines);
     report(&[output, points.unwrap_or(output)], &text)
+}
+
+/// How many outlines and bores the list has, and their areas in its order.
+fn plan_figures(layer: Layer, table: &[u16]) -> Result<String, Refusal> {
+    let kinds = layer.kinds()?;
+    let outlines = kinds.iter().filter(|kind| **kind == Kind::Outline).count();
+    let counted = format!("outlines: {}, bores: {}, each after those around it\n", outlines, kinds.len() - outlines);
+    Ok(counted + &areas::lines(layer, table, layer.list_order()?)?)
 }
 
 /// A line an item. A coordinate is a whole number of 1/256ths of at most 12 digits, so its shortest decimal is exact.
@@ -131,12 +138,14 @@ fn check(args: &Args) -> Result<(), Failure> {
     let table = job.read_sheet(&progress)?;
     progress.step("counting");
     let counts = job.layer().counts(&table).map_err(|refusal| job.refused(refusal))?;
+    let order_of_sheet = 0..counts.contours as usize;
+    let area_lines = areas::lines(job.layer(), &table, order_of_sheet).map_err(|refusal| job.refused(refusal))?;
     drop(progress);
     let mut text = format!("The sheet is good for this layer of {} × {} samples.\n", job.layer().width, job.layer().height);
     for (name, figure) in figures(counts, &table) {
         text += &format!("{:<17}{:>8}\n", name, figure);
     }
-    files::say(&text)
+    files::say(&(text + "\n" + &area_lines))
 }
 
 /// The figures of a sheet. Pinned vertices are among the kept ones, and have a line where there are any.

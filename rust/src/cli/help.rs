@@ -11,7 +11,7 @@ puzhenim: contours of a sampled layer, by a library that is proved correct
   puzhenim slice IN -o SHEET              trace, smooth and simplify a layer
   puzhenim roll IN SHEET ROLL -o SHEET2   run an edit roll on a sheet
   puzhenim plan IN SHEET -o LIST          the planner's list of a sheet
-  puzhenim check IN SHEET                 is the sheet good for the layer?
+  puzhenim check IN SHEET                 is the sheet good? figures and areas
   puzhenim draw IN [SHEET] -o PICTURE     the layer and its contours as SVG
   puzhenim COMMAND --help                 more on a command
   puzhenim --version
@@ -68,7 +68,9 @@ a line, Z closes the contour. x and y are in samples and exact, y upward.
 
 Contours come by depth, the number of others around them, and among equal depth
 by their first stick: an outline comes before the bores within it, a bore before
-the outlines within it. Says how many outlines and bores were written.
+the outlines within it. Says how many outlines and bores were written, and the
+area of each as check does, but in the order of the list; nothing if an output
+is -.
 
   -o LIST           where the list goes
   --binary POINTS   LIST gets a byte an item (M, l, Z) and POINTS x and y of each
@@ -83,6 +85,12 @@ Says whether the sheet is good for the layer, with its figures: inside samples,
 sticks, contours, kept vertices, how many of these are pinned if any are, and
 removed vertices.
 
+Then the area that each contour encloses, a line each, in the order of the
+sheet: outline or bore, column and row from below of its first stick, the area
+in square samples, rounded, and exactly, in 1/131072 of a square sample. A square
+sample is one pitch by one pitch. Outlines have areas above 0, bores below 0.
+The last line is the total, the sum over all contours.
+
   --pad   add an outside sample all round to a PBM
 ";
 
@@ -91,7 +99,8 @@ puzhenim draw IN [SHEET] -o PICTURE [--pad]
 
 Draws the layer and the contours of the sheet, without one the traced contours,
 as SVG. Samples and vertices are marked unless the grid is too fine for it,
-pinned vertices by a square.
+pinned vertices by a square. The legend has the areas of the outlines and of the
+bores, each summed up, and the total, in square samples to two decimals.
 
   -o PICTURE   where the picture goes
   --pad        add an outside sample all round to a PBM

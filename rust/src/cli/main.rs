@@ -2,6 +2,7 @@
 
 #![forbid(unsafe_code)]
 
+mod areas;
 mod args;
 mod commands;
 mod failure;

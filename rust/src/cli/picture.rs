@@ -25,7 +25,7 @@ pub fn draw(name: &str, layer: Layer, table: &[u16]) -> Result<String, Refusal> 
         of_these_pinned(shapes.pinned.len()),
         shapes.removed.len()
     );
-    let legend = Legend::of(&frame, &shapes);
+    let legend = Legend::of(&frame, &shapes, &layer.areas(table)?);
     let body = shapes.draw(layer, &frame)?;
     Ok(frame.page(name, &figures, &body, &legend))
 }

@@ -1,7 +1,8 @@
-//! What the marks mean.
+//! What the marks mean, and what the outlines and the bores enclose.
 
 use super::frame::{stroke, Frame};
 use super::shapes::Shapes;
+use puzhenim::{Areas, Kind};
 
 /// A row's height, about a letter's width and the gap between two entries, in pixels.
 const ROW: f64 = 24.0;
@@ -13,24 +14,26 @@ pub struct Legend {
 }
 
 struct Entry {
-    class: &'static str,
     symbol: Symbol,
-    text: &'static str,
+    text: String,
 }
 
 enum Symbol {
-    /// The edge of an area.
-    Area,
-    /// A mark so many pixels wide.
-    Dot(f64),
+    /// A contour of this class with what it encloses.
+    Contour(&'static str),
+    /// A mark of this class, so many pixels wide.
+    Dot(&'static str, f64),
+    /// None, where the text stands alone.
+    Blank,
 }
 
 impl Symbol {
     /// How far the text is from the symbol's left.
     fn room(&self) -> f64 {
         match self {
-            Symbol::Area => 32.0,
-            Symbol::Dot(_) => 14.0,
+            Symbol::Contour(_) => 32.0,
+            Symbol::Dot(..) => 14.0,
+            Symbol::Blank => 0.0,
         }
     }
 }
@@ -42,31 +45,23 @@ impl Entry {
 
     fn svg(&self, x: f64, y: f64) -> String {
         let symbol = match self.symbol {
-            Symbol::Area => {
-                format!("<rect class=\"{}\" stroke-width=\"2\" x=\"{}\" y=\"{}\" width=\"24\" height=\"12\"/>", self.class, x, y - 6.0)
+            Symbol::Contour(class) => {
+                format!("<rect class=\"{}\" stroke-width=\"2\" x=\"{}\" y=\"{}\" width=\"24\" height=\"12\"/>", class, x, y - 6.0)
             }
-            Symbol::Dot(width) => {
-                let (class, stroke) = (self.class, stroke(self.class));
-                format!("<path class=\"dot {}\" stroke-width=\"{}\" d=\"M{} {}{}\"/>", class, width, x + 4.0, y, stroke)
+            Symbol::Dot(class, width) => {
+                format!("<path class=\"dot {}\" stroke-width=\"{}\" d=\"M{} {}{}\"/>", class, width, x + 4.0, y, stroke(class))
             }
+            Symbol::Blank => String::new(),
         };
         format!("{}<text x=\"{}\" y=\"{}\">{}</text>\n", symbol, x + self.symbol.room(), y + 4.5, self.text)
     }
 }
 
 impl Legend {
-    /// An entry for each thing that is drawn, in rows that the page has room for.
-    pub fn of(frame: &Frame, shapes: &Shapes) -> Legend {
-        let (mut rows, mut row, mut used) = (Vec::new(), Vec::new(), 0.0);
-        for entry in entries(frame, shapes) {
-            if used + entry.width() > frame.width() {
-                rows.push(std::mem::take(&mut row));
-                used = 0.0;
-            }
-            used += entry.width();
-            row.push(entry);
-        }
-        rows.push(row);
+    /// An entry for each thing that is drawn, the contours in rows of their own.
+    pub fn of(frame: &Frame, shapes: &Shapes, areas: &Areas) -> Legend {
+        let mut rows = in_rows(frame, contours(shapes, areas));
+        rows.extend(in_rows(frame, marks(frame, shapes)));
         Legend { rows }
     }
 
@@ -87,16 +82,44 @@ impl Legend {
     }
 }
 
-fn entries(frame: &Frame, shapes: &Shapes) -> Vec<Entry> {
-    let area = |class, text| Entry { class, symbol: Symbol::Area, text };
-    let dot = |class, width, text| Entry { class, symbol: Symbol::Dot(width), text };
+/// The entries in rows that the page has room for.
+fn in_rows(frame: &Frame, entries: Vec<Entry>) -> Vec<Vec<Entry>> {
+    let (mut rows, mut row, mut used) = (Vec::new(), Vec::new(), 0.0);
+    for entry in entries {
+        if used + entry.width() > frame.width() {
+            rows.push(std::mem::take(&mut row));
+            used = 0.0;
+        }
+        used += entry.width();
+        row.push(entry);
+    }
+    if !row.is_empty() {
+        rows.push(row);
+    }
+    rows
+}
+
+/// The contours with their areas in square samples, those of a kind summed up.
+fn contours(shapes: &Shapes, areas: &Areas) -> Vec<Entry> {
+    let (outlines, bores) = (areas.sum_of(Kind::Outline).square_samples(), areas.sum_of(Kind::Bore).square_samples());
     let mut entries = Vec::new();
     if shapes.outlines > 0 {
-        entries.push(area("outline", "outline, inside shaded"));
+        entries.push(Entry { symbol: Symbol::Contour("outline"), text: format!("outline, inside shaded, area {:.2}", outlines) });
     }
     if shapes.bores > 0 {
-        entries.push(area("bore", "bore"));
+        entries.push(Entry { symbol: Symbol::Contour("bore"), text: format!("bore, area {:.2}", bores) });
     }
+    if !areas.contours.is_empty() {
+        let text = format!("total {:.2} square samples", areas.total.square_samples());
+        entries.push(Entry { symbol: Symbol::Blank, text });
+    }
+    entries
+}
+
+/// The marks of samples and vertices.
+fn marks(frame: &Frame, shapes: &Shapes) -> Vec<Entry> {
+    let dot = |class, width, text: &str| Entry { symbol: Symbol::Dot(class, width), text: text.into() };
+    let mut entries = Vec::new();
     if frame.marks_samples() {
         entries.push(dot("in", 4.0, "inside sample"));
         entries.push(dot("out", 4.0, "outside sample"));
