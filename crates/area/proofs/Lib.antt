@@ -1,4 +1,6 @@
--- Summing: the sum along one contour. Storing: the areas of all contours, stored one after the other. Answered: the call by its answers.
+-- Summing: the sum along one contour. Storing: the areas of all contours, stored one after the other. Answered: the call by its answers. Examples:
+-- areas worked out by running the definitions.
 pub mod Summing
 pub mod Storing
 pub mod Answered
+pub mod Examples

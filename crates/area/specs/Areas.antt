@@ -25,7 +25,7 @@ sumOf (z ∷ l) = z +ℤ sumOf l
 unfoldable pub twiceArea : Layer → List ℕ → Edge → ℤ
 twiceArea L t f = sumOf (map (edgeAdds L t) (drawnOf L t f))
 
--- those of all contours, in their order
+-- one number a contour, in contour order
 abbrev pub areasOf : Layer → List ℕ → List ℤ
 areasOf L t = map (twiceArea L t) (firstSticks L)
 

@@ -9,12 +9,14 @@ use Rattle.grid.specs.Layer.{Layer}
 use Rattle.grid.specs.Questions.{ask, firstNo, ifAllYes, numberOf}
 use Rattle.grid.specs.declared.question.Refusal.the-variants.{ShortOutput}
 use Rattle.grid.specs.declared.question.Answer.{Answer}
+use Rattle.contour.specs.Contours.{contourCount}
 use Rattle.held.specs.Questions.{heldQuestions}
 use Rattle.area.specs.Areas.{areasOf, totalOf}
 use Rattle.area.specs.declared.measure.Measured.{Measured}
 use Rattle.area.specs.declared.measure.Measured.the-variants.{Done, Refused}
 
--- the number of a refusal and its place, both 0 where the call is done; how many contours were measured and their sum; and the output at exit
+-- the number of a refusal and its place, both 0 where the call is done; how many contours were measured and the sum of their areas; and the output
+-- at exit
 pub record Outcome : Type 0 where
   pub refusal : ℕ
   pub place : ℕ
@@ -28,13 +30,13 @@ outcome (Done contours total) out = record { refusal = 0; place = 0; contours = 
 outcome (Refused q place) out = record { refusal = numberOf q; place = place; contours = 0; total = pos 0; output = out }
 
 -- "14. Does each output hold the whole answer? (0)": a number for each contour
-abbrev pub roomAnswer : Layer → List ℕ → List ℤ → Answer
-roomAnswer L t out = ask ShortOutput (leb (length (areasOf L t)) (length out))
+abbrev pub roomAnswer : Layer → List ℤ → Answer
+roomAnswer L out = ask ShortOutput (leb (contourCount L) (length out))
 
 -- "These figures belong to held layers only, so questions 1 to 7 stand before them"; then 14. "A refusal leaves all buffers as found .. Outputs
 -- past the answer's end stay untouched."
 unfoldable pub measureOf : Layer → List ℕ → List ℤ → Outcome
 measureOf L t out =
-    ifAllYes (firstNo (heldQuestions L t ++ (roomAnswer L t out ∷ [])))
-    (λ q place. record { refusal = numberOf q; place = place; contours = 0; total = pos 0; output = out })
-    (record { refusal = 0; place = 0; contours = length (areasOf L t); total = totalOf L t; output = sets out 0 (areasOf L t) })
+    ifAllYes (firstNo (heldQuestions L t ++ (roomAnswer L out ∷ [])))
+    (λ q place. outcome (Refused q place) out)
+    (outcome (Done (contourCount L) (totalOf L t)) (sets out 0 (areasOf L t)))

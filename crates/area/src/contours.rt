@@ -13,13 +13,7 @@ ghost use Rattle.area.specs.Areas.{areasOf};
 ghost use Rattle.area.specs.Measuring.{AllMeasured};
 
 // Stores the areas of the contours whose first sticks are in the set, and gives their sum.
-pub fn put_areas(
-    size: Size,
-    bitmap: &[u8],
-    table: &[u16],
-    set: &EdgeSet,
-    areas: &mut [i64],
-) -> i64
+pub fn put_areas(size: Size, bitmap: &[u8], table: &[u16], set: &EdgeSet, areas: &mut [i64]) -> i64
     requires { ⌜ Accepted (layerOf size (now bitmap)) (now table) ⌝ }
     requires { ⌜ FirstSet (layerOf size (now bitmap)) (now set) ⌝ }
     requires { ⌜ length (areasOf (layerOf size (now bitmap)) (now table)) ≤ length (now areas) ⌝ }

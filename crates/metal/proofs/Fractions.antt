@@ -38,9 +38,8 @@ use Rattle.drawn.proofs.Neighbours.{owner-previous, owner-next, ends-at, crosse
 use Rattle.drawn.proofs.Pieces.{first-end, vertex-inside}
 use Rattle.held.specs.Questions.{Accepted}
 use Rattle.held.proofs.HeldFacts.{HeldFacts, held-of}
-use Rattle.winding.specs.Turns.{isOn}
 use Rattle.winding.proofs.Contours.{on-is}
-use Rattle.polygon.specs.Polygon.{xAt, yAt, added, taken}
+use Rattle.polygon.specs.Polygon.{xAt, yAt, added, taken, Offsets}
 
 -- what some drawn edges add to twice the area, and take from it
 abbrev pub addedAlong : Layer → List ℕ → List Ends → ℕ
@@ -334,9 +333,8 @@ module _ (L : Layer) (t : List ℕ) (sound : Sound L) (vertices : Vertices L t) 
 -- what the contour's drawn edges do.
 pub record Scaled (L : Layer) (t : List ℕ) (f : Edge) : Type 0 where
   pub M : ℕ
-  pub some : 0 < M
   pub o : Edge → ℕ
-  pub within : (e : Edge) → isOn L f e ≡ true → (0 < o e) × (o e < 256 * M)
+  pub within : Offsets L (256 * M) o f
   pub balanced : added L (256 * M) o f + M * M * takenAlong L t (drawnOf L t f) ≡ taken L (256 * M) o f + M * M * addedAlong L t (drawnOf L t f)
 
 pub scaled : (L : Layer) (t : List ℕ) → Accepted L t → (f : Edge) → first (walkOf L) f ≡ true → Scaled L t f
@@ -349,7 +347,6 @@ scaled L t accepted f is-first =
     let s = shares L (λ e. spot L t e .d) (contourOf L f) (λ e on. spot-some L t sound vertices held e (on-one (walkOf L) law f e stick on)) in
     record {
       M = s .M;
-      some = s .some;
       o = o L t sound vertices held f stick (s .M) (s .some) (s .share) (s .is);
       within = λ e on. within L t sound vertices held f stick (s .M) (s .some) (s .share) (s .is) e (on-is L f e on);
       balanced = balance L t sound vertices held f stick (s .M) (s .some) (s .share) (s .is);

@@ -7,7 +7,7 @@ use mathlib.Core.List.{List, [], _∷_, map}
 use Prim.Native.Nat.{ℕ, _+_, _*_, _<_}
 use native.Mathlib.Nat.{lt-of-mul-lt-mul-left}
 use native.Mathlib.Omega.{arith}
-use lib.IntN.{ℤ, pos, negℤ, natAbs, _-ℤ_}
+use lib.IntN.{ℤ, pos, negℤ, natAbs, _+ℤ_, _-ℤ_, negℤ-negℤ}
 use lib.ListN.{length}
 use lib.Signed.{_<ℤ_}
 use Rattle.arith.proofs.Booleans.{both-sides}
@@ -23,13 +23,13 @@ use Rattle.contour.proofs.First.{first-one}
 use Rattle.contour.proofs.Sticks.{laws}
 use Rattle.drawn.specs.Drawn.{vertex, Ends, drawnOf}
 use Rattle.held.specs.Questions.{Accepted}
-use Rattle.winding.specs.Turns.{isBore}
+use Rattle.winding.specs.Turns.{isOn, isBore, turnsInside, turnsOutside}
 use Rattle.winding.proofs.Contours.{on-self}
 use Rattle.winding.proofs.Values.{inside-value, outside-value}
 use Rattle.polygon.specs.Polygon.{added, taken, enclosed, Encloses}
 use Rattle.polygon.proofs.Enclosed.{encloses}
 use Rattle.area.specs.Areas.{edgeAdds, sumOf, twiceArea}
-use Rattle.metal.specs.Metal.{Outline, Bore, samplesWithin}
+use Rattle.metal.specs.Metal.{Outline, Bore}
 use Rattle.metal.proofs.Fractions.{addedAlong, takenAlong, scaled}
 
 -- ---- outlines and bores
@@ -52,6 +52,12 @@ module _ {L : Layer} (sound : Sound L) (f : Edge) (is-first : first (walkOf L) f
 
   pub not-both : Outline L f → Bore L f → ⊥
   not-both o b = false≢true (sym (not-bore o) ∙ bore b)
+
+  pub outline-only : Outline L f → (e : Edge) → isOn L f e ≡ true → turnsOutside L f e ≡ pos 0
+  outline-only out e on = outside-value sound f is-first e on ∙ rw (not-bore out)
+
+  pub bore-only : Bore L f → (e : Edge) → isOn L f e ≡ true → turnsInside L f e ≡ pos 0
+  bore-only out e on = inside-value sound f is-first e on ∙ rw (bore out)
 
 -- ---- integers as differences
 
@@ -77,6 +83,10 @@ module _ (L : Layer) (t : List ℕ) where
   area-diff : (f : Edge) → IsDiff (twiceArea L t f) (addedAlong L t (drawnOf L t f)) (takenAlong L t (drawnOf L t f))
   unfolding twiceArea
   area-diff f = sum-diff (drawnOf L t f)
+
+-- a square pitch for each sample that a contour is around, in the unit of areas, below 0 for a bore
+abbrev pub samplesWithin : Layer → Edge → ℤ
+samplesWithin L f = cond (isBore L f) (negℤ (pos (131072 * enclosed L f))) (pos (131072 * enclosed L f))
 
 pub samples-diff : (L : Layer) (f : Edge)
     → IsDiff (samplesWithin L f) (cond (isBore L f) 0 (131072 * enclosed L f)) (cond (isBore L f) (131072 * enclosed L f) 0)
@@ -148,3 +158,16 @@ module _ {L : Layer} {t : List ℕ} (accepted : Accepted L t) (f : Edge) (is-fir
   contour-near =
       near (isBore L f) (twiceArea L t f) (samplesWithin L f) adds takes (length (contourOf L f)) (enclosed L f)
       (area-diff L t f) (samples-diff L f) bounds
+
+  pub outline-near : Outline L f → natAbs (twiceArea L t f -ℤ pos (131072 * enclosed L f)) < 65536 * length (contourOf L f)
+  outline-near out = rw (not-bore (accepted .sound) f is-first out) at contour-near
+
+  pub bore-near : Bore L f → natAbs (twiceArea L t f +ℤ pos (131072 * enclosed L f)) < 65536 * length (contourOf L f)
+  bore-near out =
+      let k : ℤ = pos (131072 * enclosed L f) in
+      let near : natAbs (twiceArea L t f -ℤ negℤ k) < 65536 * length (contourOf L f) = rw (bore (accepted .sound) f is-first out) at contour-near in
+      omega (
+        arith,
+        near,
+        ap (λ (z : ℤ). natAbs (twiceArea L t f +ℤ z)) (negℤ-negℤ k),
+      )

@@ -1,27 +1,43 @@
--- What purchasing may rely on of the areas of a layer that questions 1 to 7 accept.
-use mathlib.Core.Path.{_≡_}
+-- What purchasing may rely on of the areas of a layer that questions 1 to 7 accept, and of the answer of a call that is done.
+use mathlib.Core.Path.{_≡_, refl, sym, ap, subst, _∙_}
 use mathlib.Core.List.{List}
-use Prim.Native.Nat.{ℕ}
+use Prim.Native.Nat.{ℕ, _≤_}
+use native.Mathlib.Omega.{arith}
+use lib.IntN.{ℤ}
+use lib.ListN.{length, take}
+use lib.Seq.{sets, sets-eq, take-append-seam}
 use Rattle.grid.specs.Layer.{Layer}
-use Rattle.grid.specs.Questions.{firstNo}
-use Rattle.grid.specs.declared.question.Answer.the-variants.{Yes}
-use Rattle.held.specs.Questions.{heldQuestions, Accepted}
+use Rattle.held.specs.Questions.{Accepted}
 use Rattle.held.proofs.Asking.{accepted-of}
-use Rattle.metal.specs.Metal.{Metal}
-use Rattle.metal.proofs.Signs.{one-or-other, not-both, outline-above, bore-below, contour-near}
-use Rattle.metal.proofs.Totals.{total-near, total-nearer}
+use Rattle.area.specs.Areas.{sumOf, areasOf}
+use Rattle.area.specs.Call.{measureOf}
+use Rattle.area.proofs.Answered.{as-many, measured-done, measured-yes}
+use Rattle.metal.specs.Metal.{Metal, AreasAnswered}
+use Rattle.metal.proofs.Signs.{one-or-other, not-both, outline-only, bore-only, outline-above, bore-below, outline-near, bore-near}
+use Rattle.metal.proofs.Totals.{total-near}
 
 pub metal : (L : Layer) (t : List ℕ) → Accepted L t → Metal L t
 metal L t accepted =
     record {
       one-or-other = λ f h. one-or-other (accepted .sound) f h;
       not-both = λ f h. not-both (accepted .sound) f h;
+      outline-only = λ f h. outline-only (accepted .sound) f h;
+      bore-only = λ f h. bore-only (accepted .sound) f h;
       outline-above = λ f h. outline-above accepted f h;
       bore-below = λ f h. bore-below accepted f h;
-      contour-near = λ f h. contour-near accepted f h;
+      outline-near = λ f h. outline-near accepted f h;
+      bore-near = λ f h. bore-near accepted f h;
       total-near = total-near accepted;
-      total-nearer = total-nearer accepted;
     }
 
-pub metal-asked : (L : Layer) (t : List ℕ) → firstNo (heldQuestions L t) ≡ Yes → Metal L t
-metal-asked L t asked = metal L t (accepted-of L t asked)
+-- what is stored from the start on stands there
+stored-first : (l out : List ℤ) → length l ≤ length out → take (length l) (sets out 0 l) ≡ l
+stored-first l out h = ap (take (length l)) (sets-eq l out 0 (omega arith)) ∙ take-append-seam l _
+
+pub areas-answered : (L : Layer) (t : List ℕ) (out : List ℤ) → measureOf L t out .refusal ≡ 0 → AreasAnswered L t (measureOf L t out)
+areas-answered L t out done =
+    let yes = measured-yes L t out done in
+    let many = as-many L t in
+    let stands = ap (λ (n : ℕ). take n (sets out 0 (areasOf L t))) many ∙ stored-first (areasOf L t) out (omega (arith, many, yes .1)) in
+    subst (AreasAnswered L t) (sym (measured-done L t out (yes .0) (yes .1)))
+    (record { contours = refl; areas = stands; total = ap sumOf (sym stands); metal = metal L t (accepted-of L t (yes .0)) })

@@ -7,7 +7,7 @@ use Prim.Native.Nat.{ℕ, zero, suc, _+_, _*_, _≤_, _<_}
 use native.Mathlib.Numerals.{add-one}
 use native.Mathlib.Omega.{arith}
 use lib.IntN.{ℤ, pos, negsuc, negℤ, natAbs, _+ℤ_, _-ℤ_}
-use lib.ListN.{length}
+use lib.ListN.{length, length-map}
 use Rattle.arith.specs.Booleans.{asNumber}
 use Rattle.arith.specs.Finite.{sum}
 use Rattle.arith.proofs.Finite.{sum-same, count-sum}
@@ -22,7 +22,7 @@ use Rattle.grid.specs.declared.edge.Edge.{Edge}
 use Rattle.mask.specs.Counts.{insideCount, stickCount}
 use Rattle.mask.proofs.Ones.{inside-rows}
 use Rattle.contour.specs.Walk.{first}
-use Rattle.contour.specs.Contours.{walkOf, contourOf, firstSticks}
+use Rattle.contour.specs.Contours.{walkOf, contourOf, firstSticks, contourCount}
 use Rattle.contour.proofs.Theorems.{total-length}
 use Rattle.held.specs.Questions.{Accepted}
 use Rattle.winding.specs.Turns.{turns, around, isBore, turnsOf}
@@ -32,8 +32,7 @@ use Rattle.winding.proofs.Firsts.{firsts-induct}
 use Rattle.polygon.specs.Polygon.{enclosed}
 use Rattle.polygon.proofs.Sums.{grid, grid-same, grid-add, grid-none}
 use Rattle.area.specs.Areas.{sumOf, twiceArea, totalOf}
-use Rattle.metal.specs.Metal.{samplesWithin}
-use Rattle.metal.proofs.Signs.{IsDiff, samples-diff, contour-near}
+use Rattle.metal.proofs.Signs.{IsDiff, samplesWithin, samples-diff, contour-near}
 
 -- ---- sums
 
@@ -158,10 +157,6 @@ add-near a b c d =
       neg-parts d,
     )
 
-total-some : {X : Type 0} (g : X → ℕ) (l : List X) → 0 < total g l → 0 < length l
-total-some g [] h = absurd (omega arith)
-total-some g (x ∷ l) h = omega arith
-
 module _ {L : Layer} {t : List ℕ} (accepted : Accepted L t) where
   -- each contour's difference is less than its bound, so all together differ by one less for each
   near-all : natAbs (totalOf L t -ℤ samplesOf L (firstSticks L)) + length (firstSticks L)
@@ -177,13 +172,12 @@ module _ {L : Layer} {t : List ℕ} (accepted : Accepted L t) where
   lengths : total (λ f. length (contourOf L f)) (firstSticks L) ≡ stickCount L
   lengths = sym (parts-total (contourOf L) (firstSticks L)) ∙ total-length L (accepted .sound)
 
-  near-inside : natAbs (totalOf L t -ℤ pos (131072 * insideCount L)) + length (firstSticks L) ≤ 65536 * stickCount L
-  near-inside =
-      omega (arith, near-all, lengths, ap (λ z. natAbs (totalOf L t -ℤ z)) (all-samples (accepted .sound)))
-
-  pub total-near : natAbs (totalOf L t -ℤ pos (131072 * insideCount L)) ≤ 65536 * stickCount L
-  total-near = omega (arith, near-inside)
-
-  pub total-nearer : 0 < stickCount L → natAbs (totalOf L t -ℤ pos (131072 * insideCount L)) < 65536 * stickCount L
-  total-nearer some =
-      omega (arith, near-inside, total-some (λ f. length (contourOf L f)) (firstSticks L) (omega (arith, lengths)))
+  pub total-near : natAbs (totalOf L t -ℤ pos (131072 * insideCount L)) + contourCount L ≤ 65536 * stickCount L
+  total-near =
+      omega (
+        arith,
+        near-all,
+        lengths,
+        length-map (firstSticks L) (contourOf L),
+        ap (λ z. natAbs (totalOf L t -ℤ z)) (all-samples (accepted .sound)),
+      )

@@ -1,42 +1,55 @@
--- What purchasing may rely on of the areas of a held layer: their signs, and how near they are to the samples that are counted.
+-- What purchasing may rely on of the areas of a held layer: their signs, and how near they are to the samples that are counted; and that the call's
+-- answer is these areas.
 use mathlib.Core.Path.{_≡_}
 use mathlib.Core.Logic.{_⊎_, _≢_}
-use mathlib.Core.Bool.{true, cond}
+use mathlib.Core.Bool.{true}
 use mathlib.Core.List.{List}
-use Prim.Native.Nat.{ℕ, _*_, _<_, _≤_}
-use lib.IntN.{ℤ, pos, negℤ, natAbs, _-ℤ_}
-use lib.ListN.{length}
+use Prim.Native.Nat.{ℕ, _+_, _*_, _<_, _≤_}
+use lib.IntN.{pos, natAbs, _+ℤ_, _-ℤ_}
+use lib.ListN.{length, take}
 use lib.Signed.{_<ℤ_}
 use Rattle.grid.specs.Layer.{Layer}
 use Rattle.grid.specs.declared.edge.Edge.{Edge}
 use Rattle.mask.specs.Counts.{insideCount, stickCount}
 use Rattle.contour.specs.Walk.{first}
-use Rattle.contour.specs.Contours.{walkOf, contourOf}
-use Rattle.winding.specs.Turns.{isOn, isBore, turnsInside, turnsOutside}
+use Rattle.contour.specs.Contours.{walkOf, contourOf, contourCount}
+use Rattle.winding.specs.Turns.{isOn, turnsInside, turnsOutside}
 use Rattle.polygon.specs.Polygon.{enclosed}
-use Rattle.area.specs.Areas.{twiceArea, totalOf}
+use Rattle.area.specs.Areas.{sumOf, twiceArea, areasOf, totalOf}
+use Rattle.area.specs.Call.{Outcome}
 
--- "an outline is a contour that winds around the inside ends of its sticks, a bore one that winds around the outside ends"
+-- "an outline is a contour that winds around the inside ends of its sticks, a bore one that winds around the outside ends". Turns are counted by the
+-- contour's sticks, each of which it crosses once.
 abbrev pub Outline : Layer → Edge → Type 0
 Outline L f = (e : Edge) → isOn L f e ≡ true → turnsInside L f e ≢ pos 0
 
 abbrev pub Bore : Layer → Edge → Type 0
 Bore L f = (e : Edge) → isOn L f e ≡ true → turnsOutside L f e ≢ pos 0
 
--- twice the area of the samples that the contour is around, a square pitch each, in 1/65,536 of a square pitch, with its sign
-abbrev pub samplesWithin : Layer → Edge → ℤ
-samplesWithin L f = cond (isBore L f) (negℤ (pos (131072 * enclosed L f))) (pos (131072 * enclosed L f))
-
+-- A contour is named by its first stick f. 131,072 stands for one square pitch, as areas are doubled.
 pub record Metal (L : Layer) (t : List ℕ) : Type 0 where
-  -- Every contour is an outline or a bore, and not both.
+  -- Every contour is an outline or a bore, and not both: an outline winds around no outside end of its sticks, a bore around no inside end.
   pub one-or-other : (f : Edge) → first (walkOf L) f ≡ true → Outline L f ⊎ Bore L f
   pub not-both : (f : Edge) → first (walkOf L) f ≡ true → Outline L f → Bore L f → ⊥
+  pub outline-only : (f : Edge) → first (walkOf L) f ≡ true → Outline L f → (e : Edge) → isOn L f e ≡ true → turnsOutside L f e ≡ pos 0
+  pub bore-only : (f : Edge) → first (walkOf L) f ≡ true → Bore L f → (e : Edge) → isOn L f e ≡ true → turnsInside L f e ≡ pos 0
   -- "Outlines come out positive and bores negative, and this shall be shown"
   pub outline-above : (f : Edge) → first (walkOf L) f ≡ true → Outline L f → pos 0 <ℤ twiceArea L t f
   pub bore-below : (f : Edge) → first (walkOf L) f ≡ true → Bore L f → twiceArea L t f <ℤ pos 0
-  -- A contour's area differs from the number of samples that it is around by less than half the number of its sticks,
-  pub contour-near : (f : Edge) → first (walkOf L) f ≡ true
-      → natAbs (twiceArea L t f -ℤ samplesWithin L f) < 65536 * length (contourOf L f)
-  -- and the total from the number of inside samples by at most half the number of sticks, less where there are sticks.
-  pub total-near : natAbs (totalOf L t -ℤ pos (131072 * insideCount L)) ≤ 65536 * stickCount L
-  pub total-nearer : 0 < stickCount L → natAbs (totalOf L t -ℤ pos (131072 * insideCount L)) < 65536 * stickCount L
+  -- A contour's area differs from a square pitch for each sample that it is around by less than half a square pitch for each of its sticks. Of a
+  -- bore both are below 0.
+  pub outline-near : (f : Edge) → first (walkOf L) f ≡ true → Outline L f
+      → natAbs (twiceArea L t f -ℤ pos (131072 * enclosed L f)) < 65536 * length (contourOf L f)
+  pub bore-near : (f : Edge) → first (walkOf L) f ≡ true → Bore L f
+      → natAbs (twiceArea L t f +ℤ pos (131072 * enclosed L f)) < 65536 * length (contourOf L f)
+  -- The total differs from a square pitch for each inside sample by at most half a square pitch for each stick, and by less where there is a
+  -- contour.
+  pub total-near : natAbs (totalOf L t -ℤ pos (131072 * insideCount L)) + contourCount L ≤ 65536 * stickCount L
+
+-- What a call that is done answers and leaves in its output: a number for each contour, in their order, and "The layer's total is the sum over
+-- contours."
+pub record AreasAnswered (L : Layer) (t : List ℕ) (o : Outcome) : Type 0 where
+  pub contours : o .contours ≡ contourCount L
+  pub areas : take (o .contours) (o .output) ≡ areasOf L t
+  pub total : o .total ≡ sumOf (take (o .contours) (o .output))
+  pub metal : Metal L t

@@ -15,8 +15,8 @@ use Rattle.step.specs.Cells.{edgeOn}
 use Rattle.step.specs.declared.cell.Side.the-variants.{South, East, North, West}
 use Rattle.contour.specs.Walk.{first}
 use Rattle.contour.specs.Contours.{walkOf, contourOf}
-use Rattle.winding.specs.Turns.{isOn, isBore}
-use Rattle.polygon.specs.Polygon.{xAt, yAt, added, taken, enclosed, Encloses}
+use Rattle.winding.specs.Turns.{isBore}
+use Rattle.polygon.specs.Polygon.{xAt, yAt, added, taken, Offsets, Encloses, EnclosedBy}
 use Rattle.polygon.proofs.CellSums.{pattern, linksIn, cornersIn, addedIn, takenIn, moreIn, lessIn, CellBounds}
 use Rattle.polygon.proofs.Cell.{cell-bounds}
 use Rattle.polygon.proofs.Patterns.{side-on}
@@ -63,7 +63,7 @@ total-one [] = refl
 total-one (e ∷ l) = omega (arith, total-one l)
 
 module _ (L : Layer) (sound : Sound L) (f : Edge) (is-first : first (walkOf L) f ≡ true) (G : ℕ) (o : Edge → ℕ)
-    (within : (e : Edge) → isOn L f e ≡ true → (0 < o e) × (o e < G)) where
+    (within : Offsets L G o f) where
   added-sum : overCells L (λ c r. addedIn G o c r (pattern L f c r)) ≡ added L G o f
   unfolding xor
   added-sum = by-cells L sound f is-first (λ d e. xAt G o d * yAt G o e)
@@ -79,8 +79,7 @@ module _ (L : Layer) (sound : Sound L) (f : Edge) (is-first : first (walkOf L) f
       ∙ by-cells L sound f is-first (λ d e. 1)
       ∙ total-one (contourOf L f)
 
-  pub encloses : Encloses G (length (contourOf L f)) (enclosed L f)
-      (cond (isBore L f) (taken L G o f) (added L G o f)) (cond (isBore L f) (added L G o f) (taken L G o f))
+  pub encloses : EnclosedBy L G o f
   unfolding xor
   encloses =
       let added-in : ℕ → ℕ → ℕ = λ c r. addedIn G o c r (pattern L f c r) in

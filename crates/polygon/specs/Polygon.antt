@@ -1,7 +1,9 @@
 -- A polygon that has one vertex on every stick of a contour, in walk order, and what the contour encloses. Coordinates are whole numbers at a
 -- pitch G of the grid, so that a vertex on the edge e lies at an offset o e of it, strictly between 0 and G.
-use mathlib.Core.Bool.{cond}
-use Prim.Native.Nat.{ℕ, _+_, _*_, _≤_}
+use mathlib.Core.Path.{_≡_}
+use mathlib.Core.Bool.{true, cond}
+use Prim.Native.Nat.{ℕ, _+_, _*_, _≤_, _<_}
+use lib.ListN.{length}
 use Rattle.arith.specs.Booleans.{asNumber}
 use Rattle.arith.specs.Finite.{sum}
 use Rattle.arith.specs.Levels.{total}
@@ -9,7 +11,7 @@ use Rattle.grid.specs.Layer.{Layer}
 use Rattle.grid.specs.declared.edge.Edge.{Edge}
 use Rattle.step.specs.Walk.{next}
 use Rattle.contour.specs.Contours.{contourOf}
-use Rattle.winding.specs.Turns.{around}
+use Rattle.winding.specs.Turns.{isOn, around, isBore}
 
 -- the vertex on e
 abbrev pub xAt : ℕ → (Edge → ℕ) → Edge → ℕ
@@ -30,9 +32,20 @@ taken L G o f = total (λ e. xAt G o (next L e) * yAt G o e) (contourOf L f)
 unfoldable pub enclosed : Layer → Edge → ℕ
 enclosed L f = sum (λ r. sum (λ c. asNumber (around L f c r)) (L .size .width)) (L .size .height)
 
--- More is more than less by twice an area at pitch G that is at least a half for each of n sticks, and differs by less than n/2 square pitches
--- from N of them.
+-- the vertex on each stick of the contour lies strictly inside it
+abbrev pub Offsets : Layer → ℕ → (Edge → ℕ) → Edge → Type 0
+Offsets L G o f = (e : Edge) → isOn L f e ≡ true → (0 < o e) × (o e < G)
+
+-- `more` is more than `less` by twice an area, in 1/(G × G) of a square pitch: at least half a unit for each of n sticks, and less than n/2 square
+-- pitches from N of them
 pub record Encloses (G n N more less : ℕ) : Type 0 where
   pub above : less + n ≤ more
   pub least : 2 * (G * G * N) + less + n ≤ more + G * G * n
   pub most : more + n ≤ 2 * (G * G * N) + less + G * G * n
+
+-- What is shown of every such polygon (proofs/Enclosed.antt): the edges of an outline's add more than they take, those of a bore's take more than they
+-- add, by about a square pitch for each sample that the contour is around.
+abbrev pub EnclosedBy : Layer → ℕ → (Edge → ℕ) → Edge → Type 0
+EnclosedBy L G o f =
+    Encloses G (length (contourOf L f)) (enclosed L f)
+    (cond (isBore L f) (taken L G o f) (added L G o f)) (cond (isBore L f) (added L G o f) (taken L G o f))

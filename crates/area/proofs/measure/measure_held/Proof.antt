@@ -1,30 +1,24 @@
 -- `measure_held` meets its contract.
-use mathlib.Core.Path.{_≡_, sym, _∙_}
+use mathlib.Core.Path.{sym, _∙_}
 use native.Mathlib.Omega.{arith}
 use borrow.Author.Needs.{needs}
-use lib.ListN.{length}
 use mir.Syntax.{w64}
 use mir.Val.{toZ, ofZ}
 use Rattle.arith.proofs.Bounds.{sized, exact}
 use Rattle.grid.specs.Layer.{layerOf}
 use Rattle.held.proofs.Asking.{accepted-of}
-use Rattle.area.specs.Areas.{areasOf}
+use Rattle.area.specs.Call.{outcome}
+use Rattle.area.specs.declared.measure.Measured.the-variants.{Done}
 use Rattle.area.proofs.Answered.{as-many, measured-short, measured-done}
 use Rattle.area.proofs.measure.measure_held.Statement.{statement}
 use Rattle.area.proofs.measure.measure_held.Tie as tie
-
--- the number of contours is that of the areas
-many : (c : tie.After-contours-in)
-    → let a = c .before .before .before .args in
-    c .contours-in .result ≡ length (areasOf (layerOf (a .size) (a .bitmap .now)) (a .table .now))
-many c = let a = c .before .before .before .args in c .contours-in .ensures ∙ as-many (layerOf (a .size) (a .bitmap .now)) (a .table .now)
 
 returns : tie.Need-returns
 returns c =
     let start = c .before .before .before .before in
     let a = start .args in
     let L = layerOf (a .size) (a .bitmap .now) in
-    sym (measured-short L (a .table .now) (a .areas .now) (start .pre .0) (omega (arith, c .if1 .taken, many (c .before))))
+    sym (measured-short L (a .table .now) (a .areas .now) (start .pre .0) (omega (arith, c .if1 .taken, c .before .contours-in .ensures)))
 
 put-areas-requires : tie.Need-put-areas-requires
 put-areas-requires c κs =
@@ -32,7 +26,7 @@ put-areas-requires c κs =
     let start = roomy .before .before .before .before in
     let a = start .args in
     let L = layerOf (a .size) (a .bitmap .now) in
-    (accepted-of L (a .table .now) (start .pre .0), (start .pre .1, omega (arith, roomy .if1 .left, many (roomy .before))))
+    (accepted-of L (a .table .now) (start .pre .0), (start .pre .1, omega (arith, roomy .if1 .left, roomy .before .contours-in .ensures, as-many L (a .table .now))))
 
 returns-2 : tie.Need-returns-2
 returns-2 c =
@@ -44,8 +38,9 @@ returns-2 c =
     let all = put .put-areas .ensures in
     let fits = all .small in
     let total-is = exact {z = toZ w64 (ofZ w64 (put .put-areas .result))} (search sized depth 9) tt ∙ all .sum in
-    let done = measured-done L (a .table .now) (a .areas .now) (start .pre .0) (omega (arith, roomy .if1 .left, many (roomy .before))) in
-    (λ i. record { refusal = 0; place = 0; contours = many (roomy .before) i; total = total-is i; output = all .put i }) ∙ sym done
+    let many = roomy .before .contours-in .ensures in
+    let done = measured-done L (a .table .now) (a .areas .now) (start .pre .0) (omega (arith, roomy .if1 .left, many)) in
+    (λ i. outcome (Done (many i) (total-is i)) (all .put i)) ∙ sym done
 
 pub measure-held-spec : {M : Type 1} → statement M
 measure-held-spec = tie.close (tie.spec (λ c κs. search needs) returns put-areas-requires (λ c. search needs) returns-2)
