@@ -29,6 +29,10 @@ beq→eq true false t = absurd t
 beq→eq false true t = absurd t
 beq→eq false false t = refl
 
+pub beq-self : (b : Bool) → Bool·beq b b ≡ true
+beq-self true = refl
+beq-self false = refl
+
 pub beq-yes : (a b : Bool) → Bool·beq a b ≡ true → a ≡ b
 beq-yes a b e = beq→eq a b (subst T (sym e) tt)
 

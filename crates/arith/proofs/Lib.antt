@@ -4,6 +4,7 @@ pub mod Lists
 pub mod Ranges
 pub mod Counting
 pub mod Finite
+pub mod Sums
 pub mod Stores
 pub mod Levels
 pub mod Placing

@@ -14,3 +14,7 @@ pub record Least (f : ℕ → Bool) (i n r : ℕ) : Type 0 where
 unfoldable pub sum : (ℕ → ℕ) → ℕ → ℕ
 sum f zero = 0
 sum f (suc n) = sum f n + f n
+
+-- the sum of F at the columns below m of the rows below n
+abbrev pub sumOver : (ℕ → ℕ → ℕ) → ℕ → ℕ → ℕ
+sumOver F m n = sum (λ r. sum (λ c. F c r) m) n

@@ -3,7 +3,7 @@ use mathlib.Core.Path.{_≡_, refl}
 use mathlib.Core.Bool.{Bool, true, false, _&&_, Bool·beq, xor}
 use borrow.Author.Tests.{eqb-true, eq-eqb}
 use lib.Dec.{T, eqb}
-use Rattle.arith.proofs.Booleans.{and-split, beq→eq}
+use Rattle.arith.proofs.Booleans.{and-split, beq→eq, beq-self}
 use Rattle.grid.specs.Layer.{Layer}
 use Rattle.grid.specs.Edges.{isStick, inGrid, firstEnd, secondEnd}
 use Rattle.grid.specs.Questions.{Sound}
@@ -15,10 +15,6 @@ use Rattle.contour.specs.Contours.{walkOf, sameEdge}
 
 T-of : {b : Bool} → b ≡ true → T b
 T-of e = rw e tt
-
-beq-self : (b : Bool) → Bool·beq b b ≡ true
-beq-self true = refl
-beq-self false = refl
 
 pub same-edge : (e f : Edge) → sameEdge e f ≡ true → e ≡ f
 same-edge e f h =

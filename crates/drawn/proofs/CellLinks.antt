@@ -5,7 +5,7 @@ use mathlib.Core.Logic.{_≢_}
 use mathlib.Core.Bool.{Bool, true, false, true≢false, not, xor, _&&_, _||_, Bool·beq}
 use Prim.Native.Nat.{ℕ}
 use lib.Dec.{T, eqb-refl}
-use Rattle.arith.proofs.Booleans.{both-sides, T-true, and-T, implied}
+use Rattle.arith.proofs.Booleans.{both-sides, T-true, and-T, implied, beq-self}
 use Rattle.grid.specs.Layer.{Layer}
 use Rattle.grid.specs.Edges.{isStick}
 use Rattle.grid.specs.Questions.{Sound}
@@ -55,10 +55,6 @@ four a b c d t =
     let y = and-T (a && b) c (x .0) in
     let z = and-T a b (y .0) in
     (z .0, z .1, y .1, x .1)
-
-beq-self : (b : Bool) → Bool·beq b b ≡ true
-beq-self true = refl
-beq-self false = refl
 
 sides-differ : (s t : Side) → sameSide s t ≡ false → t ≢ s
 sides-differ s t f e = true≢false (sym (T-true (sameSide s t) (subst (λ (u : Side). T (sameSide s u)) (sym e) (eqb-refl (sideIndex s)))) ∙ f)

@@ -9,13 +9,14 @@ use native.Mathlib.Omega.{arith}
 use lib.IntN.{ℤ, pos, negsuc, negℤ, natAbs, _+ℤ_, _-ℤ_}
 use lib.ListN.{length, length-map}
 use Rattle.arith.specs.Booleans.{asNumber}
-use Rattle.arith.specs.Finite.{sum}
+use Rattle.arith.specs.Finite.{sum, sumOver}
 use Rattle.arith.proofs.Finite.{sum-same, count-sum}
 use Rattle.arith.proofs.Counting.{CountedTo, counted-none, counted-all}
 use Rattle.arith.specs.Levels.{total}
 use Rattle.arith.proofs.Levels.{parts-total}
 use Rattle.arith.specs.Integers.{positivePart, negativePart}
 use Rattle.arith.proofs.Integers.{arithℤ, add-parts, neg-parts, natAbs-parts}
+use Rattle.arith.proofs.Sums.{over-same, over-add, over-none, over-times}
 use Rattle.grid.specs.Layer.{Layer, sample, sampleIn, sampleAt}
 use Rattle.grid.specs.Questions.{Sound}
 use Rattle.grid.specs.declared.edge.Edge.{Edge}
@@ -30,34 +31,23 @@ use Rattle.winding.proofs.Values.{values}
 use Rattle.winding.proofs.Together.{together}
 use Rattle.winding.proofs.Firsts.{firsts-induct}
 use Rattle.polygon.specs.Polygon.{enclosed}
-use Rattle.polygon.proofs.Sums.{grid, grid-same, grid-add, grid-none}
 use Rattle.area.specs.Areas.{sumOf, twiceArea, totalOf}
 use Rattle.metal.proofs.Signs.{IsDiff, samplesWithin, samples-diff, contour-near}
 
 -- ---- sums
 
-sum-times : (k : ℕ) (f : ℕ → ℕ) (n : ℕ) → sum (λ i. k * f i) n ≡ k * sum f n
-unfolding sum
-sum-times k f zero = omega arith
-sum-times k f (suc n) = omega (arith, sum-times k f n)
-
-grid-times : (k : ℕ) (F : ℕ → ℕ → ℕ) (m n : ℕ) → grid (λ c r. k * F c r) m n ≡ k * grid F m n
-grid-times k F m n =
-    sum-same (λ r. sum (λ c. k * F c r) m) (λ r. k * sum (λ c. F c r) m) n (λ r h. sum-times k (λ c. F c r) m)
-    ∙ sum-times k (λ r. sum (λ c. F c r) m) n
-
 -- the positive and the negative parts of sums of integers, added up
 parts-add : (x y : ℕ → ℕ → ℤ) (m n : ℕ)
-    → grid (λ c r. positivePart (x c r +ℤ y c r)) m n + (grid (λ c r. negativePart (x c r)) m n + grid (λ c r. negativePart (y c r)) m n)
-    ≡ grid (λ c r. positivePart (x c r)) m n + grid (λ c r. positivePart (y c r)) m n + grid (λ c r. negativePart (x c r +ℤ y c r)) m n
+    → sumOver (λ c r. positivePart (x c r +ℤ y c r)) m n + (sumOver (λ c r. negativePart (x c r)) m n + sumOver (λ c r. negativePart (y c r)) m n)
+    ≡ sumOver (λ c r. positivePart (x c r)) m n + sumOver (λ c r. positivePart (y c r)) m n + sumOver (λ c r. negativePart (x c r +ℤ y c r)) m n
 parts-add x y m n =
     omega (
       arith,
-      grid-add (λ c r. negativePart (x c r)) (λ c r. negativePart (y c r)) m n,
-      grid-add (λ c r. positivePart (x c r +ℤ y c r)) (λ c r. negativePart (x c r) + negativePart (y c r)) m n,
-      grid-add (λ c r. positivePart (x c r)) (λ c r. positivePart (y c r)) m n,
-      grid-add (λ c r. positivePart (x c r) + positivePart (y c r)) (λ c r. negativePart (x c r +ℤ y c r)) m n,
-      grid-same (λ c r. positivePart (x c r +ℤ y c r) + (negativePart (x c r) + negativePart (y c r)))
+      over-add (λ c r. negativePart (x c r)) (λ c r. negativePart (y c r)) m n,
+      over-add (λ c r. positivePart (x c r +ℤ y c r)) (λ c r. negativePart (x c r) + negativePart (y c r)) m n,
+      over-add (λ c r. positivePart (x c r)) (λ c r. positivePart (y c r)) m n,
+      over-add (λ c r. positivePart (x c r) + positivePart (y c r)) (λ c r. negativePart (x c r +ℤ y c r)) m n,
+      over-same (λ c r. positivePart (x c r +ℤ y c r) + (negativePart (x c r) + negativePart (y c r)))
           (λ c r. positivePart (x c r) + positivePart (y c r) + negativePart (x c r +ℤ y c r)) m n (λ c r hc hr. add-parts (x c r) (y c r)),
     )
 
@@ -65,7 +55,7 @@ parts-add x y m n =
 
 -- a number for each sample
 abbrev overSamples : Layer → (ℕ → ℕ → ℕ) → ℕ
-overSamples L g = grid g (L .size .width) (L .size .height)
+overSamples L g = sumOver g (L .size .width) (L .size .height)
 
 -- the samples within some contours, with their signs
 abbrev samplesOf : Layer → List Edge → ℤ
@@ -85,7 +75,7 @@ module _ {L : Layer} (sound : Sound L) where
   abbrev h : ℕ
   h = L .size .height
 
-  inside-rows-sum : (n : ℕ) → n ≤ h → CountedTo (sampleAt L) w h n (grid (λ c r. asNumber (sample L c r)) w n)
+  inside-rows-sum : (n : ℕ) → n ≤ h → CountedTo (sampleAt L) w h n (sumOver (λ c r. asNumber (sample L c r)) w n)
   unfolding sum
   inside-rows-sum zero l = counted-none
   inside-rows-sum (suc n) l =
@@ -102,9 +92,9 @@ module _ {L : Layer} (sound : Sound L) where
     unfolding enclosed
     part-sum part none =
         let one : ℕ = part (cond (isBore L f) (negsuc 0) (pos 1)) in
-        grid-same (λ c r. part (turns L f c r)) (λ c r. one * asNumber (around L f c r)) w h
+        over-same (λ c r. part (turns L f c r)) (λ c r. one * asNumber (around L f c r)) w h
         (λ c r hc hr. ap part (values sound f is-first c r hc hr) ∙ by (around L f c r))
-        ∙ grid-times one (λ c r. asNumber (around L f c r)) w h
+        ∙ over-times one (λ c r. asNumber (around L f c r)) w h
       where
         by : (a : Bool) → part (cond a (cond (isBore L f) (negsuc 0) (pos 1)) (pos 0)) ≡ part (cond (isBore L f) (negsuc 0) (pos 1)) * asNumber a
         by true = omega arith
@@ -123,7 +113,7 @@ module _ {L : Layer} (sound : Sound L) where
   -- of several, and of all
   several-diff : IsDiff (samplesOf L (firstSticks L)) (131072 * turnsLeft L (firstSticks L)) (131072 * turnsRight L (firstSticks L))
   several-diff =
-      let none = grid-none (λ c r. 0) w h (λ c r hc hr. refl) in
+      let none = over-none (λ c r. 0) w h (λ c r hc hr. refl) in
       firsts-induct (walkOf L) (λ l. IsDiff (samplesOf L l) (131072 * turnsLeft L l) (131072 * turnsRight L l))
       (omega (arith, none))
       (λ f l is-first d.
@@ -132,9 +122,9 @@ module _ {L : Layer} (sound : Sound L) where
 
   all-samples : samplesOf L (firstSticks L) ≡ pos (131072 * insideCount L)
   all-samples =
-      let inside = grid-same (λ c r. positivePart (turnsOf L (firstSticks L) c r)) (λ c r. asNumber (sample L c r)) w h
+      let inside = over-same (λ c r. positivePart (turnsOf L (firstSticks L) c r)) (λ c r. asNumber (sample L c r)) w h
       (λ c r hc hr. ap positivePart (together sound c r hc hr)) in
-      let none = grid-none (λ c r. negativePart (turnsOf L (firstSticks L) c r)) w h
+      let none = over-none (λ c r. negativePart (turnsOf L (firstSticks L) c r)) w h
       (λ c r hc hr. ap negativePart (together sound c r hc hr)) in
       omega (arithℤ, several-diff, inside, inside-sum, none)
 

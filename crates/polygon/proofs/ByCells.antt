@@ -8,7 +8,9 @@ use Prim.Native.Nat.{ℕ, _+_, _*_, _-_, _<_}
 use native.Mathlib.Omega.{arith}
 use Rattle.arith.specs.Booleans.{asNumber}
 use Rattle.arith.specs.Levels.{total}
-use Rattle.arith.proofs.Booleans.{both-sides}
+use Rattle.arith.proofs.Booleans.{both-sides, beq-self}
+use Rattle.arith.specs.Finite.{sumOver}
+use Rattle.arith.proofs.Sums.{over-same, over-add, over-none, over-single}
 use Rattle.grid.specs.Layer.{Layer}
 use Rattle.grid.specs.Edges.{isStick}
 use Rattle.grid.specs.Questions.{Sound}
@@ -31,11 +33,6 @@ use Rattle.winding.proofs.Cells.{ahead-is}
 use Rattle.winding.proofs.Contours.{on-is, off, first-stick, on-stick}
 use Rattle.polygon.proofs.CellSums.{pattern, overSides, enters}
 use Rattle.polygon.proofs.Patterns.{side-on, on-left, on-partner}
-use Rattle.polygon.proofs.Sums.{grid, grid-same, grid-add, grid-none, grid-single}
-
-beq-self : (b : Bool) → Bool·beq b b ≡ true
-beq-self true = refl
-beq-self false = refl
 
 side-self : (s : Side) → sameSide s s ≡ true
 side-self South = refl
@@ -61,7 +58,7 @@ abbrev pub cellRows : Layer → ℕ
 cellRows L = L .size .height - 1
 
 abbrev pub overCells : Layer → (ℕ → ℕ → ℕ) → ℕ
-overCells L F = grid F (cellColumns L) (cellRows L)
+overCells L F = sumOver F (cellColumns L) (cellRows L)
 
 module _ (L : Layer) (sound : Sound L) (g : Edge → ℕ) where
   -- g at a side, as often as it stands in a list, where who enters the cell by it has inside on the left; and the sum over a cell's sides
@@ -105,7 +102,7 @@ module _ (L : Layer) (sound : Sound L) (g : Edge → ℕ) where
     stick-gives : overCells L (cellGives alone) ≡ g e
     stick-gives =
         let inner : InGrid L p = cell-beside L sound (e .vertical) (e .column) (e .row) stick (upward L e) in
-        grid-single (cellGives alone) (cellColumns L) (cellRows L) (p .column) (p .row) (omega arith) (omega arith)
+        over-single (cellGives alone) (cellColumns L) (cellRows L) (p .column) (p .row) (omega arith) (omega arith)
         (λ c r other.
         let none : (s : Side) → gives alone c r s ≡ 0 =
         λ s. other-gives c r s (λ is. other (ap (λ (q : CellSide). q .column) (sym is)) (ap (λ (q : CellSide). q .row) (sym is))) in
@@ -115,13 +112,13 @@ module _ (L : Layer) (sound : Sound L) (g : Edge → ℕ) where
   list-gives : (l : List Edge) → AllSticks L l → overCells L (cellGives (λ x. occurrences (walkOf L) x l)) ≡ total g l
   unfolding occurrences
   list-gives [] sticks =
-      grid-none (cellGives (λ x. 0)) (cellColumns L) (cellRows L) (λ c r a b. omega arith)
+      over-none (cellGives (λ x. 0)) (cellColumns L) (cellRows L) (λ c r a b. omega arith)
   list-gives (e ∷ l) sticks =
       let here : Edge → ℕ = λ x. asNumber (sameEdge x e) in
       let after : Edge → ℕ = λ x. occurrences (walkOf L) x l in
-      grid-same (cellGives (λ x. here x + after x)) (λ c r. cellGives here c r + cellGives after c r)
+      over-same (cellGives (λ x. here x + after x)) (λ c r. cellGives here c r + cellGives after c r)
       (cellColumns L) (cellRows L) (λ c r a b. omega arith)
-      ∙ grid-add (cellGives here) (cellGives after) (cellColumns L) (cellRows L)
+      ∙ over-add (cellGives here) (cellGives after) (cellColumns L) (cellRows L)
       ∙ omega (arith, stick-gives e (head-stick sound e l sticks), list-gives l (tail-sticks sound e l sticks))
 
 -- what v gives for a step of the walk from a stick to the next, and for the step in a cell from a side, if there is one
@@ -160,7 +157,7 @@ module _ (L : Layer) (sound : Sound L) (f : Edge) (is-first : first (walkOf L) f
   pub by-cells : overCells L (λ c r. overSides (stepIn L v f c r)) ≡ total (step L v) (contourOf L f)
   unfolding xor
   by-cells =
-      grid-same (λ c r. overSides (stepIn L v f c r)) (cellGives L sound (step L v) often) (cellColumns L) (cellRows L)
+      over-same (λ c r. overSides (stepIn L v f c r)) (cellGives L sound (step L v) often) (cellColumns L) (cellRows L)
       (λ c r a b.
       let same : (s : Side) → stepIn L v f c r s ≡ gives L sound (step L v) often c r s = side-step c r (omega arith) (omega arith) in
       omega (arith, same South, same East, same North, same West))

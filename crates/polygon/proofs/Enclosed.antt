@@ -6,8 +6,9 @@ use mathlib.Core.List.{List, [], _∷_}
 use Prim.Native.Nat.{ℕ, zero, suc, _+_, _*_, _<_}
 use native.Mathlib.Omega.{arith}
 use lib.ListN.{length}
-use Rattle.arith.specs.Finite.{sum}
+use Rattle.arith.specs.Finite.{sum, sumOver}
 use Rattle.arith.specs.Levels.{total}
+use Rattle.arith.proofs.Sums.{over-same, over-add}
 use Rattle.grid.specs.Layer.{Layer}
 use Rattle.grid.specs.Questions.{Sound}
 use Rattle.grid.specs.declared.edge.Edge.{Edge}
@@ -20,7 +21,6 @@ use Rattle.polygon.specs.Polygon.{xAt, yAt, added, taken, Offsets, Enclo
 use Rattle.polygon.proofs.CellSums.{pattern, linksIn, cornersIn, addedIn, takenIn, moreIn, lessIn, CellBounds}
 use Rattle.polygon.proofs.Cell.{cell-bounds}
 use Rattle.polygon.proofs.Patterns.{side-on}
-use Rattle.polygon.proofs.Sums.{grid, grid-same, grid-add}
 use Rattle.polygon.proofs.ByCells.{cellColumns, cellRows, overCells, by-cells}
 use Rattle.polygon.proofs.Shared.{swept, corners-sum, east-west, north-south}
 
@@ -37,7 +37,7 @@ sum-bounds G links corners more less (suc n) h =
 
 grid-bounds : (G : ℕ) (links corners more less : ℕ → ℕ → ℕ) (m n : ℕ)
     → ((c r : ℕ) → c < m → r < n → CellBounds G (links c r) (corners c r) (more c r) (less c r))
-    → CellBounds G (grid links m n) (grid corners m n) (grid more m n) (grid less m n)
+    → CellBounds G (sumOver links m n) (sumOver corners m n) (sumOver more m n) (sumOver less m n)
 grid-bounds G links corners more less m n h =
     sum-bounds G _ _ _ _ n
     (λ r b. sum-bounds G (λ c. links c r) (λ c. corners c r) (λ c. more c r) (λ c. less c r) m (λ c a. h c r a b))
@@ -56,7 +56,7 @@ sum-either L false F E hf he = he
 sum-three : (L : Layer) (F X Y : ℕ → ℕ → ℕ) {f : ℕ} → overCells L F ≡ f
     → overCells L (λ c r. F c r + X c r + Y c r) ≡ f + overCells L X + overCells L Y
 sum-three L F X Y hf =
-    grid-add (λ c r. F c r + X c r) Y (cellColumns L) (cellRows L) ∙ omega (arith, grid-add F X (cellColumns L) (cellRows L))
+    over-add (λ c r. F c r + X c r) Y (cellColumns L) (cellRows L) ∙ omega (arith, over-add F X (cellColumns L) (cellRows L))
 
 total-one : (l : List Edge) → total (λ e. 1) l ≡ length l
 total-one [] = refl
@@ -75,7 +75,7 @@ module _ (L : Layer) (sound : Sound L) (f : Edge) (is-first : first (walkOf L) f
   links-sum : overCells L (λ c r. linksIn (pattern L f c r)) ≡ length (contourOf L f)
   unfolding xor
   links-sum =
-      grid-same _ _ (cellColumns L) (cellRows L) (λ c r a b. omega arith)
+      over-same _ _ (cellColumns L) (cellRows L) (λ c r a b. omega arith)
       ∙ by-cells L sound f is-first (λ d e. 1)
       ∙ total-one (contourOf L f)
 

@@ -8,6 +8,7 @@ use native.Mathlib.Omega.{arith}
 use Rattle.arith.specs.Booleans.{asNumber}
 use Rattle.arith.specs.Finite.{sum}
 use Rattle.arith.proofs.Finite.{sum-same, sum-add, sum-none}
+use Rattle.arith.proofs.Sums.{sum-moved, sum-pairs, over-same}
 use Rattle.grid.specs.Layer.{Layer}
 use Rattle.grid.specs.Questions.{Sound, onBorder}
 use Rattle.grid.specs.declared.edge.Edge.{Edge}
@@ -20,7 +21,6 @@ use Rattle.winding.specs.Turns.{around, isBore}
 use Rattle.winding.proofs.Border.{border}
 use Rattle.polygon.specs.Polygon.{enclosed}
 use Rattle.polygon.proofs.CellSums.{onLeft, pattern, isEnclosed, cornersIn, partOf}
-use Rattle.polygon.proofs.Sums.{sum-moved, sum-pairs, grid-same}
 use Rattle.polygon.proofs.ByCells.{cellColumns, cellRows, overCells}
 
 -- a corner is enclosed exactly if the contour is around it
@@ -90,7 +90,7 @@ module _ (L : Layer) (sound : Sound L) (f : Edge) (is-first : first (walkOf L) f
       let is : (c r : ℕ) → asNumber (isEnclosed (isBore L f) (onLeft L f c r)) ≡ one L f c r =
       λ c r. ap asNumber (corner-is (isBore L f) (around L f c r)) in
       let all : sum pairs (last + 1) ≡ sum pairs (L .size .height) = ap (sum pairs) (omega arith) in
-      grid-same _ (λ c r. two L f c r + two L f c (r + 1)) (cellColumns L) last
+      over-same _ (λ c r. two L f c r + two L f c (r + 1)) (cellColumns L) last
       (λ c r a b. omega (arith, is c r, is (c + 1) r, is c (r + 1), is (c + 1) (r + 1)))
       ∙ sum-same _ (λ r. pairs r + pairs (r + 1)) last (λ r b. sum-add (λ c. two L f c r) (λ c. two L f c (r + 1)) (cellColumns L))
       ∙ sum-pairs pairs last

@@ -5,7 +5,7 @@ use mathlib.Core.Bool.{true, cond}
 use Prim.Native.Nat.{ℕ, _+_, _*_, _≤_, _<_}
 use lib.ListN.{length}
 use Rattle.arith.specs.Booleans.{asNumber}
-use Rattle.arith.specs.Finite.{sum}
+use Rattle.arith.specs.Finite.{sumOver}
 use Rattle.arith.specs.Levels.{total}
 use Rattle.grid.specs.Layer.{Layer}
 use Rattle.grid.specs.declared.edge.Edge.{Edge}
@@ -30,7 +30,7 @@ taken L G o f = total (λ e. xAt G o (next L e) * yAt G o e) (contourOf L f)
 
 -- how many samples the contour is around
 unfoldable pub enclosed : Layer → Edge → ℕ
-enclosed L f = sum (λ r. sum (λ c. asNumber (around L f c r)) (L .size .width)) (L .size .height)
+enclosed L f = sumOver (λ c r. asNumber (around L f c r)) (L .size .width) (L .size .height)
 
 -- the vertex on each stick of the contour lies strictly inside it
 abbrev pub Offsets : Layer → ℕ → (Edge → ℕ) → Edge → Type 0

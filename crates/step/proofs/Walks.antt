@@ -5,7 +5,7 @@ use mathlib.Core.Bool.{Bool, true, false, false≢true, cond, not, xor, _&&_, Bo
 use Prim.Native.Nat.{ℕ, _+_, _-_, _≤_, _<_}
 use native.Mathlib.Decide.{ℕ-discrete}
 use native.Mathlib.Omega.{arith}
-use Rattle.arith.proofs.Booleans.{and-split, beq-yes, beq-no}
+use Rattle.arith.proofs.Booleans.{and-split, beq-yes, beq-no, beq-self}
 use Rattle.grid.specs.Layer.{Layer, sample}
 use Rattle.grid.specs.Edges.{isStick, inGrid, firstEnd, secondEnd}
 use Rattle.grid.specs.Questions.{Sound, onBorder}
@@ -65,10 +65,6 @@ beq-false false = refl
 not-beq : (a : Bool) → a ≡ Bool·beq (not a) false
 not-beq true = refl
 not-beq false = refl
-
-beq-self : (a : Bool) → Bool·beq a a ≡ true
-beq-self true = refl
-beq-self false = refl
 
 beq-other : (a : Bool) → Bool·beq a (not a) ≡ false
 beq-other true = refl
