@@ -1,7 +1,7 @@
 -- The sum along one contour. The walk stands at a stick; what is summed up to there, what the drawn edge adds that leads from the last kept vertex
 -- to the next one, and what the drawn edges add that start later, make the whole.
 use mathlib.Core.Path.{_≡_, refl, sym, _∙_, ap, subst}
-use mathlib.Core.Bool.{Bool, true, false, true≢false, false≢true, cond}
+use mathlib.Core.Bool.{true, false, true≢false, false≢true}
 use mathlib.Core.List.{List, [], _∷_, map}
 use Prim.Native.Nat.{ℕ, _+_, _*_, _^_, _≤_, _<_}
 use native.Mathlib.Omega.{arith}
@@ -10,7 +10,6 @@ use lib.ListN.{length}
 use Rattle.arith.proofs.Booleans.{both-sides}
 use Rattle.arith.proofs.Bounds.{natAbs-add}
 use Rattle.grid.specs.Layer.{Layer}
-use Rattle.grid.specs.Edges.{isStick}
 use Rattle.grid.specs.declared.edge.Edge.{Edge}
 use Rattle.grid.proofs.Numbers.{edges-small}
 use Rattle.step.specs.Walk.{next}
@@ -23,7 +22,7 @@ use Rattle.chord.specs.Points.{Position}
 use Rattle.chord.specs.Runs.{Near}
 use Rattle.table.specs.Vertices.{keptAt}
 use Rattle.table.specs.Lent.{LentAt}
-use Rattle.drawn.specs.Drawn.{vertex, drawnAmong, drawnFrom}
+use Rattle.drawn.specs.Drawn.{vertex, drawnAmong}
 use Rattle.drawn.specs.Neighbours.{nextKept}
 use Rattle.drawn.proofs.Vertices.{vertices-of}
 use Rattle.drawn.proofs.DrawnEdges.{keptFromHere, nextKept-from}

@@ -1,6 +1,6 @@
 -- The walk on a sound layer, one that passes questions 1 to 4, keeps the laws of a walk.
 use mathlib.Core.Path.{_≡_, refl}
-use mathlib.Core.Bool.{Bool, true, false, _&&_, Bool·beq, xor}
+use mathlib.Core.Bool.{Bool, true, _&&_, Bool·beq, xor}
 use borrow.Author.Tests.{eqb-true, eq-eqb}
 use lib.Dec.{T, eqb}
 use Rattle.arith.proofs.Booleans.{and-split, beq→eq, beq-self}

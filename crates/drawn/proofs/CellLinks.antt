@@ -2,7 +2,7 @@
 -- strictly inside the other. It lies strictly inside the cell between the two. No point lies in two links.
 use mathlib.Core.Path.{_≡_, refl, ap, sym, subst, _∙_}
 use mathlib.Core.Logic.{_≢_}
-use mathlib.Core.Bool.{Bool, true, false, true≢false, not, xor, _&&_, _||_, Bool·beq}
+use mathlib.Core.Bool.{Bool, true, false, true≢false, not, xor, _&&_, _||_}
 use Prim.Native.Nat.{ℕ}
 use lib.Dec.{T, eqb-refl}
 use Rattle.arith.proofs.Booleans.{both-sides, T-true, and-T, implied, beq-self}

@@ -1,5 +1,5 @@
 -- `contours_in` meets its contract.
-use mathlib.Core.Path.{sym, _∙_}
+use mathlib.Core.Path.{_∙_}
 use borrow.Author.Needs.{needs}
 use Rattle.grid.specs.Layer.{layerOf}
 use Rattle.contour.proofs.FirstSets.{counted-below, set-count}

@@ -1,10 +1,9 @@
 -- `contour_area` meets its contract. The invariant: what is summed, what the drawn edge adds that leads on from the last kept vertex, and what those
 -- add that start later make the whole. `start` is where the call began, `work` what a turn does.
-use mathlib.Core.Path.{_≡_, sym, ap, _∙_}
+use mathlib.Core.Path.{sym, ap, _∙_}
 use mathlib.Core.Logic.{inl, inr}
 use mathlib.Core.Bool.{true≢false}
 use Prim.Native.Nat.{_^_, _≤_}
-use native.Mathlib.Omega.{arith}
 use borrow.Author.Needs.{needs}
 use lib.IntN.{natAbs}
 use lib.ListN.{length}
@@ -12,13 +11,12 @@ use mir.Syntax.{w64}
 use mir.Val.{toZ}
 use Rattle.arith.proofs.Bounds.{sized, in-range, exact}
 use Rattle.grid.specs.Layer.{layerOf}
-use Rattle.grid.specs.declared.edge.Edge.{Edge}
 use Rattle.contour.specs.Walk.{rest}
 use Rattle.contour.specs.Contours.{walkOf}
 use Rattle.table.specs.Vertices.{isKept, keptAt, offsetAt}
 use Rattle.table.proofs.Lent.{has-entry}
 use Rattle.area.specs.Measuring.{Measurable}
-use Rattle.area.proofs.Summing.{PartSummed, Summed, summed-start, summed-here, summed-less, summed-small, Closing, Turned, summed-turn, summed-end, closing-small, passed-kept, area-found}
+use Rattle.area.proofs.Summing.{PartSummed, summed-start, summed-here, summed-less, summed-small, Closing, Turned, summed-turn, summed-end, closing-small, passed-kept, area-found}
 use Rattle.area.proofs.walk.contour_area.Statement.{statement}
 use Rattle.area.proofs.walk.contour_area.Tie as tie
 
