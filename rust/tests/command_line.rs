@@ -330,7 +330,10 @@ fn areas_come_in_the_order_of_the_sheet_or_of_the_list() {
     }
     folder.done(&["draw", "nested.pbm", "sheet", "-o", "nested.svg"]);
     let picture = text(&folder.get("nested.svg"));
-    assert_eq!(legend(&picture)[..3], ["outline, inside shaded, area 25.50", "bore, area -8.50", "total 17.00 square samples"]);
+    assert_eq!(
+        legend(&picture)[..3],
+        ["outline, inside shaded, area 25.50 (3342336)", "bore, area -8.50 (-1114112)", "total 17.00 square samples (2228224 in 1/131072)"]
+    );
 }
 
 #[test]
@@ -395,7 +398,14 @@ fn draws_outlines_and_bores() {
     assert!(picture.contains("24 × 16 samples, 220 inside; 1 outline, 2 bores; vertices: 130 kept, 0 removed"));
     assert!(picture.contains("inside sample") && !picture.contains("removed vertex"));
     // A rectangle of 22 by 14 without its corners; the bores have 308 - 220 samples, and lose their corners too.
-    assert_eq!(legend(&picture)[..3], ["outline, inside shaded, area 307.50", "bore, area -87.00", "total 220.50 square samples"]);
+    assert_eq!(
+        legend(&picture)[..3],
+        [
+            "outline, inside shaded, area 307.50 (40304640)",
+            "bore, area -87.00 (-11403264)",
+            "total 220.50 square samples (28901376 in 1/131072)"
+        ]
+    );
     folder.done(&["slice", &example("passages.layer"), "-o", "sheet"]);
     folder.done(&["draw", &example("passages.layer"), "sheet", "-o", "sliced.svg"]);
     assert!(text(&folder.get("sliced.svg")).contains("removed vertex"));
@@ -430,7 +440,7 @@ fn draws_pinned_vertices_by_a_mark_of_their_own() {
     assert!(picture.contains("\n.pinned{"));
     // A square has a stroke with a direction.
     assert!(picture.contains("M255 256h.1\"") && !picture.contains("M255 256h0\""));
-    let contours = ["outline, inside shaded, area 0.00", "total 0.00 square samples"];
+    let contours = ["outline, inside shaded, area 0.00 (4)", "total 0.00 square samples (4 in 1/131072)"];
     let all = [&contours[..], &["inside sample", "outside sample", "kept vertex", "pinned vertex"]].concat();
     assert_eq!(legend(&picture), all);
     // With all of them pinned, no mark of a kept vertex is to be seen.

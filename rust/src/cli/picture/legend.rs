@@ -2,7 +2,7 @@
 
 use super::frame::{stroke, Frame};
 use super::shapes::Shapes;
-use puzhenim::{Areas, Kind};
+use puzhenim::{Area, Areas, Kind};
 
 /// A row's height, about a letter's width and the gap between two entries, in pixels.
 const ROW: f64 = 24.0;
@@ -86,7 +86,7 @@ impl Legend {
 fn in_rows(frame: &Frame, entries: Vec<Entry>) -> Vec<Vec<Entry>> {
     let (mut rows, mut row, mut used) = (Vec::new(), Vec::new(), 0.0);
     for entry in entries {
-        if used + entry.width() > frame.width() {
+        if !row.is_empty() && used + entry.width() > frame.width() {
             rows.push(std::mem::take(&mut row));
             used = 0.0;
         }
@@ -99,18 +99,24 @@ fn in_rows(frame: &Frame, entries: Vec<Entry>) -> Vec<Vec<Entry>> {
     rows
 }
 
-/// The contours with their areas in square samples, those of a kind summed up.
+/// An area in square samples, and exactly.
+fn measured(area: Area) -> String {
+    format!("area {:.2} ({})", area.square_samples(), area.0)
+}
+
+/// The contours with their areas, those of a kind summed up.
 fn contours(shapes: &Shapes, areas: &Areas) -> Vec<Entry> {
-    let (outlines, bores) = (areas.sum_of(Kind::Outline).square_samples(), areas.sum_of(Kind::Bore).square_samples());
     let mut entries = Vec::new();
     if shapes.outlines > 0 {
-        entries.push(Entry { symbol: Symbol::Contour("outline"), text: format!("outline, inside shaded, area {:.2}", outlines) });
+        let text = format!("outline, inside shaded, {}", measured(areas.sum_of(Kind::Outline)));
+        entries.push(Entry { symbol: Symbol::Contour("outline"), text });
     }
     if shapes.bores > 0 {
-        entries.push(Entry { symbol: Symbol::Contour("bore"), text: format!("bore, area {:.2}", bores) });
+        let text = format!("bore, {}", measured(areas.sum_of(Kind::Bore)));
+        entries.push(Entry { symbol: Symbol::Contour("bore"), text });
     }
     if !areas.contours.is_empty() {
-        let text = format!("total {:.2} square samples", areas.total.square_samples());
+        let text = format!("total {:.2} square samples ({} in 1/131072)", areas.total.square_samples(), areas.total.0);
         entries.push(Entry { symbol: Symbol::Blank, text });
     }
     entries
