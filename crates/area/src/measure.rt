@@ -2,16 +2,14 @@
 use super::contours::put_areas;
 use bitset::EdgeSet;
 use bitset::WORDS;
-use bitset::member_count;
+use contour::contours_in;
 use grid::Answer;
 use grid::Refusal;
 use grid::Size;
-use grid::kind_start;
 ghost use mathlib.Core.Path.{_≡_};
 ghost use Rattle.grid.specs.Layer.{layerOf, sizeOf};
 ghost use Rattle.grid.specs.Questions.{firstNo};
 ghost use Rattle.grid.specs.declared.question.Answer.the-variants.{Yes};
-ghost use Rattle.contour.specs.Contours.{contourCount};
 ghost use Rattle.contour.specs.Sets.{FirstSet};
 ghost use Rattle.held.specs.Questions.{heldQuestions};
 ghost use Rattle.area.specs.Call.{outcome, measureOf};
@@ -20,14 +18,6 @@ ghost use Rattle.area.specs.Call.{outcome, measureOf};
 pub enum Measured {
     Done { contours: usize, total: i64 },
     Refused(Refusal, usize),
-}
-
-// How many contours a layer has whose first sticks are in the set.
-fn contours_in(size: Size, bitmap: &[u8], set: &EdgeSet) -> usize
-    requires { ⌜ FirstSet (layerOf size (now bitmap)) (now set) ⌝ }
-    ensures { λ r. ⌜ r ≡ contourCount (layerOf size (now (bitmap .entry))) ⌝ }
-{
-    member_count(set, kind_start(size, true))
 }
 
 // Measures a layer that passed questions 1 to 7, if the output is long enough.

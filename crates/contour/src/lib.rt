@@ -4,6 +4,7 @@ mod cursor;
 mod edge;
 mod scan;
 
+pub use count::contours_in;
 pub use count::count_contours;
 pub use cursor::Cursor;
 pub use cursor::first_contour;

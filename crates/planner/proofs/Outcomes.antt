@@ -68,16 +68,6 @@ pub record Tallies (L : Layer) (t : List ℕ) (kept many : ℕ) : Type 0 where
   pub many-is : many ≡ contourCount L
   pub few : many ≤ setBits
 
-pub tallied : {L : Layer} {t s : List ℕ} {kept many : ℕ} → Accepted L t → FirstSet L s
-    → kept ≡ count (keptEntry t) (length t) → many ≡ memberCount s → Tallies L t kept many
-tallied {L} {s = s} accepted set k m =
-    record {
-      accepted = accepted;
-      kept-is = k;
-      many-is = m ∙ set-count L (set .sound) s set;
-      few = omega (arith, count-le (has s) setBits);
-    }
-
 module _ {L : Layer} {t : List ℕ} {kept many : ℕ} (c : Tallies L t kept many) where
   pub tallies-fit : kept + many ≤ 3142656
   tallies-fit =

@@ -2,11 +2,10 @@
 use super::listing::write_list;
 use bitset::EdgeSet;
 use bitset::WORDS;
-use bitset::member_count;
+use contour::contours_in;
 use grid::Answer;
 use grid::Refusal;
 use grid::Size;
-use grid::kind_start;
 use table::entry_of;
 use table::is_kept;
 ghost use mathlib.Core.Path.{_≡_};
@@ -53,7 +52,7 @@ fn plan_accepted(
     ensures { λ r. ⌜ outcome r (now (items .exit)) (now (points .exit)) ≡ acceptedOf (layerOf size (now (bitmap .entry))) (now (table .entry)) (now (items .entry)) (now (points .entry)) ⌝ }
 {
     let kept = count_kept(table);
-    let bytes = kept + member_count(set, kind_start(size, true));
+    let bytes = kept + contours_in(size, bitmap, set);
     if items.len() < bytes {
         return Planned::Refused(Refusal::ShortOutput, 0);
     }

@@ -5,11 +5,10 @@ use super::command::SIZE_BYTES;
 use super::walk::put_contours;
 use bitset::EdgeSet;
 use bitset::WORDS;
-use bitset::member_count;
+use contour::contours_in;
 use grid::Answer;
 use grid::Refusal;
 use grid::Size;
-use grid::kind_start;
 use mask::stick_count;
 ghost use mathlib.Core.Path.{_≡_};
 ghost use Prim.Native.Nat.{_+_, _*_, _≤_};
@@ -36,7 +35,7 @@ fn sheet_length(size: Size, bitmap: &[u8], set: &EdgeSet) -> usize
     requires { ⌜ FirstSet (layerOf size (now bitmap)) (now set) ⌝ }
     ensures { λ r. ⌜ r ≡ 6 + 6 * contourCount (layerOf size (now (bitmap .entry))) + 2 * stickCount (layerOf size (now (bitmap .entry))) ⌝ }
 {
-    6 + 6 * member_count(set, kind_start(size, true)) + 2 * stick_count(size, bitmap)
+    6 + 6 * contours_in(size, bitmap, set) + 2 * stick_count(size, bitmap)
 }
 
 // Stores the sheet of a layer and its table.

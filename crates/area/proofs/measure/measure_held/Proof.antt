@@ -18,7 +18,7 @@ returns c =
     let start = c .before .before .before .before in
     let a = start .args in
     let L = layerOf (a .size) (a .bitmap .now) in
-    sym (measured-short L (a .table .now) (a .areas .now) (start .pre .0) (omega (arith, c .if1 .taken, c .before .contours-in .ensures)))
+    sym (measured-short L (a .table .now) (a .areas .now) (start .pre .0) (omega (arith, c .if1 .taken, c .before .contours-in .ensures .0)))
 
 put-areas-requires : tie.Need-put-areas-requires
 put-areas-requires c κs =
@@ -26,7 +26,7 @@ put-areas-requires c κs =
     let start = roomy .before .before .before .before in
     let a = start .args in
     let L = layerOf (a .size) (a .bitmap .now) in
-    (accepted-of L (a .table .now) (start .pre .0), (start .pre .1, omega (arith, roomy .if1 .left, roomy .before .contours-in .ensures, as-many L (a .table .now))))
+    (accepted-of L (a .table .now) (start .pre .0), (start .pre .1, omega (arith, roomy .if1 .left, roomy .before .contours-in .ensures .0, as-many L (a .table .now))))
 
 returns-2 : tie.Need-returns-2
 returns-2 c =
@@ -38,7 +38,7 @@ returns-2 c =
     let all = put .put-areas .ensures in
     let fits = all .small in
     let total-is = exact {z = toZ w64 (ofZ w64 (put .put-areas .result))} (search sized depth 9) tt ∙ all .sum in
-    let many = roomy .before .contours-in .ensures in
+    let many = roomy .before .contours-in .ensures .0 in
     let done = measured-done L (a .table .now) (a .areas .now) (start .pre .0) (omega (arith, roomy .if1 .left, many)) in
     (λ i. outcome (Done (many i) (total-is i)) (all .put i)) ∙ sym done
 
