@@ -105,8 +105,8 @@ uint32_t pz_plan(uint16_t w, uint16_t h, const uint8_t *bitmap, size_t bitmap_le
  * square pitch, so that a square of one pitch by one pitch is 131072. It is the sum over the contour's drawn edges, in 1/256 of the pitch, of
  * start x * end y - end x * start y; a drawn edge joins two kept vertices, pinned or not, with only removed ones between. The number of an
  * outline, which winds around the inside ends of its sticks, is above 0, that of a bore, which winds around the outside ends, below 0. The
- * total is the sum over all contours, 0 without any; as a figure it is signed, in two's complement: (int64_t)figures[2]. figures: place,
- * contours, total */
+ * total is the sum over all contours, above 0 if there are any; as a figure it is signed, in two's complement: (int64_t)figures[2]. figures:
+ * place, contours, total */
 uint32_t pz_areas(uint16_t w, uint16_t h, const uint8_t *bitmap, size_t bitmap_len, const uint16_t *table, size_t table_len,
                   int64_t *areas, size_t areas_len, uint64_t *figures, size_t figures_len);
 

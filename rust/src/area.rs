@@ -3,7 +3,7 @@
 
 use crate::Kind;
 
-/// How many of an area's numbers are a square of one pitch by one pitch.
+/// The number of a square of one pitch by one pitch.
 const SQUARE_SAMPLE: f64 = 131_072.0;
 
 /// A signed area: the number is twice the area in 1/65,536 of a square pitch. So 131,072 is one square sample, a square of one pitch by one pitch.

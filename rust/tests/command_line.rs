@@ -332,7 +332,11 @@ fn areas_come_in_the_order_of_the_sheet_or_of_the_list() {
     let picture = text(&folder.get("nested.svg"));
     assert_eq!(
         legend(&picture)[..3],
-        ["outline, inside shaded, area 25.50 (3342336)", "bore, area -8.50 (-1114112)", "total 17.00 square samples (2228224 in 1/131072)"]
+        [
+            "outline, inside shaded, area 25.500000 (3342336)",
+            "bore, area -8.500000 (-1114112)",
+            "total 17.000000 square samples (2228224 in 1/131072)"
+        ]
     );
 }
 
@@ -401,9 +405,9 @@ fn draws_outlines_and_bores() {
     assert_eq!(
         legend(&picture)[..3],
         [
-            "outline, inside shaded, area 307.50 (40304640)",
-            "bore, area -87.00 (-11403264)",
-            "total 220.50 square samples (28901376 in 1/131072)"
+            "outline, inside shaded, area 307.500000 (40304640)",
+            "bore, area -87.000000 (-11403264)",
+            "total 220.500000 square samples (28901376 in 1/131072)"
         ]
     );
     folder.done(&["slice", &example("passages.layer"), "-o", "sheet"]);
@@ -440,7 +444,7 @@ fn draws_pinned_vertices_by_a_mark_of_their_own() {
     assert!(picture.contains("\n.pinned{"));
     // A square has a stroke with a direction.
     assert!(picture.contains("M255 256h.1\"") && !picture.contains("M255 256h0\""));
-    let contours = ["outline, inside shaded, area 0.00 (4)", "total 0.00 square samples (4 in 1/131072)"];
+    let contours = ["outline, inside shaded, area 0.000031 (4)", "total 0.000031 square samples (4 in 1/131072)"];
     let all = [&contours[..], &["inside sample", "outside sample", "kept vertex", "pinned vertex"]].concat();
     assert_eq!(legend(&picture), all);
     // With all of them pinned, no mark of a kept vertex is to be seen.

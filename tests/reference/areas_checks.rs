@@ -1,4 +1,4 @@
-// Slow checks of the areas, which share nothing with the call: how a contour winds around
+// Slow checks of the areas, which share no arithmetic with the call: how a contour winds around
 // the ends of its sticks, and how much it encloses by counting whole points and squares.
 // And what the vectors of Note 6 have to show.
 
@@ -67,9 +67,23 @@ fn way_around(layer: &Layer, table: &[u16], contour: &Contour) -> Option<i64> {
     }
 }
 
+/// How many samples a contour is around, as it is drawn, with the sign of its turns.
+fn samples_around(layer: &Layer, table: &[u16], contour: &Contour) -> i64 {
+    let drawn = polygon(layer, table, contour);
+    let samples = (0..layer.h).flat_map(|r| (0..layer.w).map(move |c| (c, r)));
+    samples
+        .map(|(c, r)| turns(&drawn, (256 * c as i64, 256 * r as i64)))
+        .sum()
+}
+
+/// An area differs from so many square pitches by less than half a square pitch for each stick.
+fn is_near(area: i64, samples: i64, sticks: usize) -> bool {
+    (area - 131072 * samples).abs() < 65536 * sticks as i64
+}
+
 /// The areas of a held layer, or what is wrong with them: an outline has one above 0 and even
 /// depth, a bore one below 0 and odd depth; the total is their sum, above 0 if there is a
-/// contour; and each stick makes a difference to it of less than half a square pitch.
+/// contour; and each, and the total, is near the samples.
 fn looked_at(layer: &Layer, table: &[u16]) -> Result<Vec<i64>, &'static str> {
     let walks = contours(layer);
     let depths = depths(layer, &walks);
@@ -79,10 +93,13 @@ fn looked_at(layer: &Layer, table: &[u16]) -> Result<Vec<i64>, &'static str> {
         if way != Some(area.signum()) || (area > 0) != (depths[i] % 2 == 0) {
             return Err("the sign of an area");
         }
+        let samples = samples_around(layer, table, &walks[i]);
+        if !is_near(area, samples, walks[i].len()) {
+            return Err("an area far from the samples");
+        }
     }
     let (inside, sticks) = inside_and_sticks(layer);
-    let difference = (total - 131072 * inside as i64).abs();
-    let near = sticks == 0 || (total > 0 && difference < 65536 * sticks as i64);
+    let near = sticks == 0 || (total > 0 && is_near(total, inside as i64, sticks));
     match near && total == areas.iter().sum() {
         true => Ok(areas),
         false => Err("the total"),

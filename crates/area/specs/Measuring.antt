@@ -15,7 +15,7 @@ use Rattle.held.specs.Questions.{Accepted}
 use Rattle.area.specs.declared.walk.Trail.{Trail}
 use Rattle.area.specs.Areas.{twiceArea, areasOf, totalOf}
 
--- the first and the last kept vertex that a walk has passed, before the first one and past one more
+-- The trail of a walk: before the first kept vertex, and past one more.
 abbrev pub origin : Position
 origin = record { x = 0; y = 0 }
 
@@ -30,7 +30,7 @@ pub record Measurable (L : Layer) (t : List ℕ) (f : Edge) : Type 0 where
   pub accepted : Accepted L t
   pub stick : isStick L f ≡ true
 
--- twice the area of a contour, and that it fits: no edge adds more than 2^37, and there is one more than are counted
+-- twice the area of a contour, and that it fits: each of its sticks and the closing edge add at most 2^37, and n + 1 is at most 2 × n
 pub record AreaFound (L : Layer) (t : List ℕ) (f : Edge) (area : ℤ) : Type 0 where
   pub is : area ≡ twiceArea L t f
   pub most : natAbs area ≤ 2 ^ 38 * length (contourOf L f)

@@ -1,6 +1,6 @@
--- Where the drawn edges of a contour meet its sticks, as fractions brought to one denominator M. The polygon with these vertices, one on every stick,
--- and that of the drawn edges have the same area: the points on one drawn edge are collinear, so what the polygon's edges between its ends add
--- is what the drawn edge adds, which telescopes along the walk.
+-- Where the drawn edges meet the sticks, as fractions brought to one denominator M. The polygon with these vertices, one on every stick of a contour,
+-- and that of the contour's drawn edges have the same area: the points on one drawn edge are collinear, so what the polygon's edges between its
+-- ends add is what the drawn edge adds, which telescopes along the walk.
 use mathlib.Core.Path.{_≡_, refl, sym, subst, ap, _∙_}
 use mathlib.Core.Logic.{_⊎_, inl, inr}
 use mathlib.Core.Bool.{Bool, true, false, cond}
@@ -17,12 +17,14 @@ use Rattle.grid.specs.Edges.{isStick}
 use Rattle.grid.specs.Questions.{Sound}
 use Rattle.grid.specs.declared.edge.Edge.{Edge}
 use Rattle.step.specs.Walk.{next}
-use Rattle.contour.specs.Walk.{first, occurrences, OnContour, ahead}
+use Rattle.step.proofs.Walks.{next-stick}
+use Rattle.contour.specs.Walk.{first, occurrences, walked, ahead}
 use Rattle.contour.specs.Contours.{walkOf, contourOf, sameEdge}
 use Rattle.contour.proofs.Orbit.{run, round, contour-run}
-use Rattle.contour.proofs.Members.{place, on-one, on-next, on-swap, on-self}
+use Rattle.contour.proofs.Members.{place, on-one, on-swap}
 use Rattle.contour.proofs.First.{first-one}
 use Rattle.contour.proofs.Sticks.{laws, same-edge, same-self}
+use Rattle.contour.proofs.Theorems.{permutation}
 use Rattle.chord.specs.Points.{Position}
 use Rattle.chord.specs.Crossing.{base, off}
 use Rattle.chord.proofs.Homogeneous.{Homogeneous, weighted, proportional-sym, alongOf}
@@ -38,8 +40,7 @@ use Rattle.drawn.proofs.Neighbours.{owner-previous, owner-next, ends-at, crosse
 use Rattle.drawn.proofs.Pieces.{first-end, vertex-inside}
 use Rattle.held.specs.Questions.{Accepted}
 use Rattle.held.proofs.HeldFacts.{HeldFacts, held-of}
-use Rattle.winding.proofs.Contours.{on-is}
-use Rattle.polygon.specs.Polygon.{xAt, yAt, added, taken, Offsets}
+use Rattle.polygon.specs.Polygon.{xAt, yAt, added, taken, AllOffsets}
 
 -- what some drawn edges add to twice the area, and take from it
 abbrev pub addedAlong : Layer → List ℕ → List Ends → ℕ
@@ -47,6 +48,12 @@ addedAlong L t ds = total (λ d. vertex L t (d .from) .x * vertex L t (d .to) .y
 
 abbrev pub takenAlong : Layer → List ℕ → List Ends → ℕ
 takenAlong L t ds = total (λ d. vertex L t (d .to) .x * vertex L t (d .from) .y) ds
+
+-- of a polygon M times as large, with a vertex on each stick at the offset o: what the edges of the contour that starts at f add less what they take
+-- is M × M times what its drawn edges do
+abbrev pub Balanced : Layer → List ℕ → ℕ → (Edge → ℕ) → Edge → Type 0
+Balanced L t M o f =
+    added L (256 * M) o f + M * M * takenAlong L t (drawnOf L t f) ≡ taken L (256 * M) o f + M * M * addedAlong L t (drawnOf L t f)
 
 -- ---- one denominator
 
@@ -155,8 +162,8 @@ both-coordinates true M d c r o hx hy along across = (omega (arith, ap (λ m. M 
 both-coordinates false M d c r o hx hy along across = (omega arith, omega (arith, ap (λ m. M * m) across))
 
 module _ (L : Layer) (t : List ℕ) (sound : Sound L) (vertices : Vertices L t) (held : HeldFacts L t) where
-  kept-or-removed : (x : Edge) → isStick L x ≡ true → (keptAt L t x ≡ true) ⊎ ((keptAt L t x ≡ false) × (removedAt L t x ≡ true))
-  kept-or-removed x stick = both-sides (removedAt L t x)
+  either-way : (x : Edge) → isStick L x ≡ true → (keptAt L t x ≡ true) ⊎ ((keptAt L t x ≡ false) × (removedAt L t x ≡ true))
+  either-way x stick = both-sides (removedAt L t x)
       (λ r. inr (both-sides (keptAt L t x) (λ k. absurd (not-both L t x k r)) (λ k. k), r))
       (λ r. inl (kept-of L t sound vertices x stick r .kept))
 
@@ -172,14 +179,14 @@ module _ (L : Layer) (t : List ℕ) (sound : Sound L) (vertices : Vertices L t) 
       (owner L t sound vertices (at .0) y (record { stick = y-stick; kept = k .2 }))
 
   start-is : {p x : Edge} → Drawn L t p → Owns L t p x → startOf L t x ≡ p
-  start-is {p} {x} d o = elim (kept-or-removed x (owns-stick L t sound (d .stick) o)) [
+  start-is {p} {x} d o = elim (either-way x (owns-stick L t sound (d .stick) o)) [
     | inl k ↦ rw k (sym (owns-kept L t sound o k))
     | inr k ↦ rw (k .0) (owner-previous L t sound vertices d o (k .1))
   ]
 
   -- the point lies strictly inside the stick
   spot-inside : (x : Edge) → isStick L x ≡ true → Within x (spot L t x)
-  spot-inside x stick = elim (kept-or-removed x stick) [
+  spot-inside x stick = elim (either-way x stick) [
     | inl k ↦
         let alone = proportional-sym (first-end (vertex L t x) (endOf L t x)) in
         rw k (within-proportional x (omega arith) alone (vertex-inside L t sound vertices x stick))
@@ -191,22 +198,18 @@ module _ (L : Layer) (t : List ℕ) (sound : Sound L) (vertices : Vertices L t) 
   spot-some : (x : Edge) → isStick L x ≡ true → 0 < spot L t x .d
   spot-some x stick = let w = spot-inside x stick in omega arith
 
-  -- ---- the contour that starts at f, at denominator M
+  -- ---- the sticks at denominator M
 
-  module _ (f : Edge) (f-stick : isStick L f ≡ true) (M : ℕ) (some : 0 < M) (share : Edge → ℕ)
-      (is : (e : Edge) → OnContour (walkOf L) f e → share e * spot L t e .d ≡ M) where
+  module _ (M : ℕ) (some : 0 < M) (share : Edge → ℕ) (is : (e : Edge) → isStick L e ≡ true → share e * spot L t e .d ≡ M) where
     -- the offset of the vertex on a stick
     unfoldable o : Edge → ℕ
     o e = share e * alongOf e (spot L t e) - M * base e
 
-    on-stick : (x : Edge) → OnContour (walkOf L) f x → isStick L x ≡ true
-    on-stick x on = on-one (walkOf L) (laws L sound) f x f-stick on
-
-    within : (x : Edge) → OnContour (walkOf L) f x → (0 < o x) × (o x < 256 * M)
+    within : (x : Edge) → isStick L x ≡ true → (0 < o x) × (o x < 256 * M)
     unfolding o
-    within x on =
-        let w = spot-inside x (on-stick x on) in
-        offset-within M (share x) (spot L t x .d) (base x) (alongOf x (spot L t x)) some (is x on) (w .after) (w .before)
+    within x stick =
+        let w = spot-inside x stick in
+        offset-within M (share x) (spot L t x .d) (base x) (alongOf x (spot L t x)) some (is x stick) (w .after) (w .before)
 
     abbrev X : Edge → ℕ
     X x = xAt (256 * M) o x
@@ -219,27 +222,27 @@ module _ (L : Layer) (t : List ℕ) (sound : Sound L) (vertices : Vertices L t) 
       x-is : spot L t x .d * X x ≡ startWeight L t x * (M * vertex L t p .x) + endWeight L t x * (M * vertex L t q .x)
       y-is : spot L t x .d * Y x ≡ startWeight L t x * (M * vertex L t p .y) + endWeight L t x * (M * vertex L t q .y)
 
-    mean : (x : Edge) → OnContour (walkOf L) f x → Mean x (startOf L t x) (nextKept L t x)
+    mean : (x : Edge) → isStick L x ≡ true → Mean x (startOf L t x) (nextKept L t x)
     unfolding o
-    mean x on =
-        let w = spot-inside x (on-stick x on) in
+    mean x stick =
+        let w = spot-inside x stick in
         let h = spot L t x in
-        let along = offset-is M (share x) (h .d) (base x) (alongOf x h) some (is x on) (w .after) (w .before) in
+        let along = offset-is M (share x) (h .d) (base x) (alongOf x h) some (is x stick) (w .after) (w .before) in
         let both = both-coordinates (x .vertical) M (h .d) (x .column) (x .row) (o x) (h .x) (h .y) along (w .on-line) in
         record { x-is = both .0 ∙ out _ _ _ _; y-is = both .1 ∙ out _ _ _ _ }
       where
         out : (a b p q : ℕ) → M * (a * p + b * q) ≡ a * (M * p) + b * (M * q)
         out a b p q = omega arith
 
-    mean-owned : {p x : Edge} → Drawn L t p → Owns L t p x → OnContour (walkOf L) f x → Mean x p (nextKept L t p)
-    mean-owned {p} {x} d own on =
+    mean-owned : {p x : Edge} → Drawn L t p → Owns L t p x → isStick L x ≡ true → Mean x p (nextKept L t p)
+    mean-owned {p} {x} d own stick =
         subst (λ (y : Edge). Mean x y (nextKept L t p)) (start-is d own)
-        (subst (Mean x (startOf L t x)) (owner-next L t sound vertices d own) (mean x on))
+        (subst (Mean x (startOf L t x)) (owner-next L t sound vertices d own) (mean x stick))
 
-    mean-kept : (x : Edge) → OnContour (walkOf L) f x → keptAt L t x ≡ true → (X x ≡ M * vertex L t x .x) × (Y x ≡ M * vertex L t x .y)
-    mean-kept x on k =
-        let x-is = rw k at (mean x on .x-is) in
-        let y-is = rw k at (mean x on .y-is) in
+    mean-kept : (x : Edge) → isStick L x ≡ true → keptAt L t x ≡ true → (X x ≡ M * vertex L t x .x) × (Y x ≡ M * vertex L t x .y)
+    mean-kept x stick k =
+        let x-is = rw k at (mean x stick .x-is) in
+        let y-is = rw k at (mean x stick .y-is) in
         (omega arith, omega arith)
 
     -- ---- one step, and all
@@ -258,42 +261,42 @@ module _ (L : Layer) (t : List ℕ) (sound : Sound L) (vertices : Vertices L t) 
         X x * Y (next L x) + X (next L x) * (M * vertex L t r .y) + M * vertex L t q .x * Y x + drawnTakes (next L x)
         ≡ X (next L x) * Y x + M * vertex L t r .x * Y (next L x) + X x * (M * vertex L t q .y) + drawnAdds (next L x)
 
-    module _ (x : Edge) (on : OnContour (walkOf L) f x) {p : Edge} (d : Drawn L t p) (own : Owns L t p x) where
+    module _ (x : Edge) (stick : isStick L x ≡ true) {p : Edge} (d : Drawn L t p) (own : Owns L t p x) where
       abbrev x′ : Edge
       x′ = next L x
 
-      on′ : OnContour (walkOf L) f x′
-      on′ = on-next (walkOf L) (laws L sound) f x f-stick on
+      stick′ : isStick L x′ ≡ true
+      stick′ = next-stick L sound x stick
 
       step-removed : (keptAt L t x′ ≡ false) → removedAt L t x′ ≡ true → Step x (nextKept L t p) (nextKept L t p)
       step-removed k r =
           let q : Edge = nextKept L t p in
-          let z = mean-owned d own on in
-          let w = mean-owned d (goes-on own refl r) on′ in
+          let z = mean-owned d own stick in
+          let w = mean-owned d (goes-on own refl r) stick′ in
           let c = collinear (startWeight L t x) (endWeight L t x) (startWeight L t x′) (endWeight L t x′)
           (M * vertex L t p .x) (M * vertex L t p .y) (M * vertex L t q .x) (M * vertex L t q .y) (X x) (Y x) (X x′) (Y x′)
-          (spot-some x (on-stick x on)) (spot-some x′ (on-stick x′ on′)) (z .x-is) (z .y-is) (w .x-is) (w .y-is) in
+          (spot-some x stick) (spot-some x′ stick′) (z .x-is) (z .y-is) (w .x-is) (w .y-is) in
           rw k (ap (λ m. m + 0) c)
 
       step-kept : keptAt L t x′ ≡ true → Step x x′ (nextKept L t x′)
       step-kept k =
-          let w = mean-kept x′ on′ k in
+          let w = mean-kept x′ stick′ k in
           rw k (kept-identity M (X x) (Y x) (X x′) (Y x′) (vertex L t x′ .x) (vertex L t x′ .y) (endOf L t x′ .x) (endOf L t x′ .y) (w .0) (w .1))
 
-    step : (x : Edge) → OnContour (walkOf L) f x → Step x (nextKept L t x) (nextKept L t (next L x))
-    step x on =
-        let own = passed x (on-stick x on) in
+    step : (x : Edge) → isStick L x ≡ true → Step x (nextKept L t x) (nextKept L t (next L x))
+    step x stick =
+        let own = passed x stick in
         let p : Edge = own .0 in
         let d = own .1 in
         let end : nextKept L t x ≡ nextKept L t p = owner-next L t sound vertices d (own .2) in
-        elim (kept-or-removed (next L x) (on-stick (next L x) (on-next (walkOf L) (laws L sound) f x f-stick on))) [
+        elim (either-way (next L x) (next-stick L sound x stick)) [
           | inl k ↦
               let here = end ∙ ends-at L t sound vertices d (own .2) (kept-not-removed L t (next L x) k) in
-              subst (λ (q : Edge). Step x q (nextKept L t (next L x))) (sym here) (step-kept x on d (own .2) k)
+              subst (λ (q : Edge). Step x q (nextKept L t (next L x))) (sym here) (step-kept x stick d (own .2) k)
           | inr k ↦
               let end′ = owner-next L t sound vertices d (goes-on (own .2) refl (k .1)) in
               subst (λ (q : Edge). Step x q (nextKept L t (next L x))) (sym end)
-              (subst (Step x (nextKept L t p)) (sym end′) (step-removed x on d (own .2) (k .0) (k .1)))
+              (subst (Step x (nextKept L t p)) (sym end′) (step-removed x stick d (own .2) (k .0) (k .1)))
         ]
 
     -- what the edge from the vertex on x to where its drawn edge ends adds and takes, less what the drawn edge from x does
@@ -303,13 +306,13 @@ module _ (L : Layer) (t : List ℕ) (sound : Sound L) (vertices : Vertices L t) 
     abbrev falls : Edge → ℕ
     falls x = M * endOf L t x .x * Y x + drawnAdds x
 
-    telescope : (n : ℕ) (x : Edge) → OnContour (walkOf L) f x
+    telescope : (n : ℕ) (x : Edge) → isStick L x ≡ true
         → total (λ e. X e * Y (next L e)) (run (walkOf L) n x) + rises (ahead (walkOf L) n x) + falls x + total drawnTakes (run (walkOf L) n x)
         ≡ total (λ e. X (next L e) * Y e) (run (walkOf L) n x) + falls (ahead (walkOf L) n x) + rises x + total drawnAdds (run (walkOf L) n x)
     unfolding run ahead
-    telescope zero x on = omega arith
-    telescope (suc n) x on =
-        omega (arith, step x on, telescope n (next L x) (on-next (walkOf L) (laws L sound) f x f-stick on))
+    telescope zero x stick = omega arith
+    telescope (suc n) x stick =
+        omega (arith, step x stick, telescope n (next L x) (next-stick L sound x stick))
 
     drawn-total : (g : Ends → ℕ) (l : List Edge)
         → total (λ x. cond (keptAt L t x) (M * M * g (drawnFrom L t x)) 0) l ≡ M * M * total g (drawnAmong L t l)
@@ -318,10 +321,10 @@ module _ (L : Layer) (t : List ℕ) (sound : Sound L) (vertices : Vertices L t) 
         let later = drawn-total g l in
         both-sides (keptAt L t x) (λ k. rw k (omega arith)) (λ k. rw k (omega arith))
 
-    balance : added L (256 * M) o f + M * M * takenAlong L t (drawnOf L t f) ≡ taken L (256 * M) o f + M * M * addedAlong L t (drawnOf L t f)
-    balance =
+    balance : (f : Edge) → isStick L f ≡ true → Balanced L t M o f
+    balance f f-stick =
         let law = laws L sound in
-        let whole = telescope (length (contourOf L f)) f (on-self (walkOf L) law f f-stick) in
+        let whole = telescope (length (contourOf L f)) f f-stick in
         omega (
           arith,
           rw (sym (contour-run (walkOf L) law f f-stick), round (walkOf L) law f f-stick .back) at whole,
@@ -329,25 +332,27 @@ module _ (L : Layer) (t : List ℕ) (sound : Sound L) (vertices : Vertices L t) 
           drawn-total (λ d. vertex L t (d .to) .x * vertex L t (d .from) .y) (contourOf L f),
         )
 
--- A polygon with a vertex on each stick of the contour that starts at f, M times as large: what its edges add less what they take is M × M times
--- what the contour's drawn edges do.
-pub record Scaled (L : Layer) (t : List ℕ) (f : Edge) : Type 0 where
+-- a polygon M times as large with a vertex on each stick of the layer, so balanced for every contour
+pub record Scaled (L : Layer) (t : List ℕ) : Type 0 where
   pub M : ℕ
   pub o : Edge → ℕ
-  pub within : Offsets L (256 * M) o f
-  pub balanced : added L (256 * M) o f + M * M * takenAlong L t (drawnOf L t f) ≡ taken L (256 * M) o f + M * M * addedAlong L t (drawnOf L t f)
+  pub within : AllOffsets L (256 * M) o
+  pub balanced : (f : Edge) → first (walkOf L) f ≡ true → Balanced L t M o f
 
-pub scaled : (L : Layer) (t : List ℕ) → Accepted L t → (f : Edge) → first (walkOf L) f ≡ true → Scaled L t f
-scaled L t accepted f is-first =
+pub scaled : (L : Layer) (t : List ℕ) → Accepted L t → Scaled L t
+scaled L t accepted =
     let sound = accepted .sound in
-    let law = laws L sound in
-    let stick = first-one (walkOf L) law f is-first in
     let vertices = vertices-of L t sound (accepted .entries) in
     let held = held-of L t sound (accepted .held) in
-    let s = shares L (λ e. spot L t e .d) (contourOf L f) (λ e on. spot-some L t sound vertices held e (on-one (walkOf L) law f e stick on)) in
+    let above : (e : Edge) → 0 < occurrences (walkOf L) e (walked (walkOf L)) → 0 < spot L t e .d =
+    λ e on. both-sides (isStick L e) (spot-some L t sound vertices held e) (λ n. absurd (omega (arith, permutation L sound e, ap asNumber n))) in
+    let s = shares L (λ e. spot L t e .d) (walked (walkOf L)) above in
+    let is : (e : Edge) → isStick L e ≡ true → s .share e * spot L t e .d ≡ s .M =
+    λ e stick. s .is e (omega (arith, permutation L sound e, ap asNumber stick)) in
     record {
       M = s .M;
-      o = o L t sound vertices held f stick (s .M) (s .some) (s .share) (s .is);
-      within = λ e on. within L t sound vertices held f stick (s .M) (s .some) (s .share) (s .is) e (on-is L f e on);
-      balanced = balance L t sound vertices held f stick (s .M) (s .some) (s .share) (s .is);
+      o = o L t sound vertices held (s .M) (s .some) (s .share) is;
+      within = within L t sound vertices held (s .M) (s .some) (s .share) is;
+      balanced = λ f is-first.
+          balance L t sound vertices held (s .M) (s .some) (s .share) is f (first-one (walkOf L) (laws L sound) f is-first);
     }

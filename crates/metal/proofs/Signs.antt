@@ -24,7 +24,7 @@ use Rattle.contour.proofs.Sticks.{laws}
 use Rattle.drawn.specs.Drawn.{vertex, Ends, drawnOf}
 use Rattle.held.specs.Questions.{Accepted}
 use Rattle.winding.specs.Turns.{isOn, isBore, turnsInside, turnsOutside}
-use Rattle.winding.proofs.Contours.{on-self}
+use Rattle.winding.proofs.Contours.{on-self, on-stick}
 use Rattle.winding.proofs.Values.{inside-value, outside-value}
 use Rattle.polygon.specs.Polygon.{added, taken, enclosed, Encloses}
 use Rattle.polygon.proofs.Enclosed.{encloses}
@@ -50,8 +50,8 @@ module _ {L : Layer} (sound : Sound L) (f : Edge) (is-first : first (walkOf L) f
       (λ b. inr (λ e on z. omega (arith, ap natAbs (rw b at (sym (outside-value sound f is-first e on) ∙ z)))))
       (λ b. inl (λ e on z. omega (arith, ap natAbs (rw b at (sym (inside-value sound f is-first e on) ∙ z)))))
 
-  pub not-both : Outline L f → Bore L f → ⊥
-  not-both o b = false≢true (sym (not-bore o) ∙ bore b)
+  pub never-both : Outline L f → Bore L f → ⊥
+  never-both o b = false≢true (sym (not-bore o) ∙ bore b)
 
   pub outline-only : Outline L f → (e : Edge) → isOn L f e ≡ true → turnsOutside L f e ≡ pos 0
   outline-only out e on = outside-value sound f is-first e on ∙ rw (not-bore out)
@@ -80,7 +80,7 @@ module _ (L : Layer) (t : List ℕ) where
       let one = sub-diff (vertex L t (d .from) .x * vertex L t (d .to) .y) (vertex L t (d .to) .x * vertex L t (d .from) .y) in
       omega (arith, one, sum-diff l, add-parts (edgeAdds L t d) (sumOf (map (edgeAdds L t) l)))
 
-  area-diff : (f : Edge) → IsDiff (twiceArea L t f) (addedAlong L t (drawnOf L t f)) (takenAlong L t (drawnOf L t f))
+  pub area-diff : (f : Edge) → IsDiff (twiceArea L t f) (addedAlong L t (drawnOf L t f)) (takenAlong L t (drawnOf L t f))
   unfolding twiceArea
   area-diff f = sum-diff (drawnOf L t f)
 
@@ -101,12 +101,12 @@ samples-diff L f = by (isBore L f)
 -- ---- the area of a contour
 
 -- what `Encloses` says, at a pitch of 256 and strictly
-record Bounds (n N more less : ℕ) : Type 0 where
-  above : less < more
-  least : 131072 * N + less < more + 65536 * n
-  most : more < 131072 * N + less + 65536 * n
+pub record AreaBounds (n N more less : ℕ) : Type 0 where
+  pub above : less < more
+  pub least : 131072 * N + less < more + 65536 * n
+  pub most : more < 131072 * N + less + 65536 * n
 
-divided : (M n N more less m l : ℕ) → 0 < n → Encloses (256 * M) n N more less → more + M * M * l ≡ less + M * M * m → Bounds n N m l
+pub divided : (M n N more less m l : ℕ) → 0 < n → Encloses (256 * M) n N more less → more + M * M * l ≡ less + M * M * m → AreaBounds n N m l
 divided M n N more less m l some e balanced =
     record {
       above = lt-of-mul-lt-mul-left (M * M) (omega (arith, e .above));
@@ -118,12 +118,12 @@ swapped : (v : Bool) (A T a b k : ℕ) → A + k * b ≡ T + k * a → cond v T 
 swapped true A T a b k e = sym e
 swapped false A T a b k e = e
 
-signed : (v : Bool) (z : ℤ) (a b n N : ℕ) → IsDiff z a b → Bounds n N (cond v b a) (cond v a b) → cond v (z <ℤ pos 0) (pos 0 <ℤ z)
-signed true z a b n N d s = omega (arithℤ, s .above)
-signed false z a b n N d s = omega (arithℤ, s .above)
+pub sign-by : (v : Bool) (z : ℤ) (a b n N : ℕ) → IsDiff z a b → AreaBounds n N (cond v b a) (cond v a b) → cond v (z <ℤ pos 0) (pos 0 <ℤ z)
+sign-by true z a b n N d s = omega (arithℤ, s .above)
+sign-by false z a b n N d s = omega (arithℤ, s .above)
 
 near : (v : Bool) (z w : ℤ) (a b n N : ℕ) → IsDiff z a b → IsDiff w (cond v 0 (131072 * N)) (cond v (131072 * N) 0)
-    → Bounds n N (cond v b a) (cond v a b) → natAbs (z -ℤ w) < 65536 * n
+    → AreaBounds n N (cond v b a) (cond v a b) → natAbs (z -ℤ w) < 65536 * n
 near true z w a b n N d e s = near-diff z w a b 0 (131072 * N) (65536 * n) d e (omega arith) (omega arith)
 near false z w a b n N d e s = near-diff z w a b (131072 * N) 0 (65536 * n) d e (omega arith) (omega arith)
 
@@ -134,19 +134,19 @@ module _ {L : Layer} {t : List ℕ} (accepted : Accepted L t) (f : Edge) (is-fir
   abbrev takes : ℕ
   takes = takenAlong L t (drawnOf L t f)
 
-  bounds : Bounds (length (contourOf L f)) (enclosed L f) (cond (isBore L f) takes adds) (cond (isBore L f) adds takes)
+  bounds : AreaBounds (length (contourOf L f)) (enclosed L f) (cond (isBore L f) takes adds) (cond (isBore L f) adds takes)
   bounds =
       let sound = accepted .sound in
       let law = laws L sound in
-      let s = scaled L t accepted f is-first in
+      let s = scaled L t accepted in
       let G : ℕ = 256 * s .M in
       divided (s .M) (length (contourOf L f)) (enclosed L f) _ _ _ _
       (round (walkOf L) law f (first-one (walkOf L) law f is-first) .some)
-      (encloses L sound f is-first G (s .o) (s .within))
-      (swapped (isBore L f) (added L G (s .o) f) (taken L G (s .o) f) adds takes (s .M * s .M) (s .balanced))
+      (encloses L sound f is-first G (s .o) (λ e on. s .within e (on-stick sound f is-first e on)))
+      (swapped (isBore L f) (added L G (s .o) f) (taken L G (s .o) f) adds takes (s .M * s .M) (s .balanced f is-first))
 
   sign : cond (isBore L f) (twiceArea L t f <ℤ pos 0) (pos 0 <ℤ twiceArea L t f)
-  sign = signed (isBore L f) (twiceArea L t f) adds takes (length (contourOf L f)) (enclosed L f) (area-diff L t f) bounds
+  sign = sign-by (isBore L f) (twiceArea L t f) adds takes (length (contourOf L f)) (enclosed L f) (area-diff L t f) bounds
 
   pub outline-above : Outline L f → pos 0 <ℤ twiceArea L t f
   outline-above out = rw (not-bore (accepted .sound) f is-first out) at sign
@@ -165,9 +165,9 @@ module _ {L : Layer} {t : List ℕ} (accepted : Accepted L t) (f : Edge) (is-fir
   pub bore-near : Bore L f → natAbs (twiceArea L t f +ℤ pos (131072 * enclosed L f)) < 65536 * length (contourOf L f)
   bore-near out =
       let k : ℤ = pos (131072 * enclosed L f) in
-      let near : natAbs (twiceArea L t f -ℤ negℤ k) < 65536 * length (contourOf L f) = rw (bore (accepted .sound) f is-first out) at contour-near in
+      let nearer : natAbs (twiceArea L t f -ℤ negℤ k) < 65536 * length (contourOf L f) = rw (bore (accepted .sound) f is-first out) at contour-near in
       omega (
         arith,
-        near,
+        nearer,
         ap (λ (z : ℤ). natAbs (twiceArea L t f +ℤ z)) (negℤ-negℤ k),
       )

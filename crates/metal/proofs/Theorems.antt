@@ -13,18 +13,19 @@ use Rattle.area.specs.Areas.{sumOf, areasOf}
 use Rattle.area.specs.Call.{measureOf}
 use Rattle.area.proofs.Answered.{as-many, measured-done, measured-yes}
 use Rattle.metal.specs.Metal.{Metal, AreasAnswered}
-use Rattle.metal.proofs.Signs.{one-or-other, not-both, outline-only, bore-only, outline-above, bore-below, outline-near, bore-near}
-use Rattle.metal.proofs.Totals.{total-near}
+use Rattle.metal.proofs.Signs.{one-or-other, never-both, outline-only, bore-only, outline-above, bore-below, outline-near, bore-near}
+use Rattle.metal.proofs.Totals.{total-near, total-above}
 
 pub metal : (L : Layer) (t : List ℕ) → Accepted L t → Metal L t
 metal L t accepted =
     record {
       one-or-other = λ f h. one-or-other (accepted .sound) f h;
-      not-both = λ f h. not-both (accepted .sound) f h;
+      never-both = λ f h. never-both (accepted .sound) f h;
       outline-only = λ f h. outline-only (accepted .sound) f h;
       bore-only = λ f h. bore-only (accepted .sound) f h;
       outline-above = λ f h. outline-above accepted f h;
       bore-below = λ f h. bore-below accepted f h;
+      total-above = total-above accepted;
       outline-near = λ f h. outline-near accepted f h;
       bore-near = λ f h. bore-near accepted f h;
       total-near = total-near accepted;

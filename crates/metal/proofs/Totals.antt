@@ -1,5 +1,6 @@
 -- The areas of all contours together. Around a sample the contours turn once together if it is inside and not at all if it is outside, so the samples
--- within the contours, each with its contour's sign, are the inside samples; and the differences of the areas from them add up.
+-- within the contours, each with its contour's sign, are the inside samples; and the differences of the areas from them add up. That the total is
+-- above 0 comes from the polygons of all contours together, for which `encloses-inside` has it.
 use mathlib.Core.Path.{_≡_, refl, sym, ap, _∙_}
 use mathlib.Core.Bool.{Bool, true, false, cond}
 use mathlib.Core.List.{List, [], _∷_, map}
@@ -8,9 +9,10 @@ use native.Mathlib.Numerals.{add-one}
 use native.Mathlib.Omega.{arith}
 use lib.IntN.{ℤ, pos, negsuc, negℤ, natAbs, _+ℤ_, _-ℤ_}
 use lib.ListN.{length, length-map}
+use lib.Signed.{_<ℤ_}
 use Rattle.arith.specs.Booleans.{asNumber}
 use Rattle.arith.specs.Finite.{sum, sumOver}
-use Rattle.arith.proofs.Finite.{sum-same, count-sum}
+use Rattle.arith.proofs.Finite.{count-sum}
 use Rattle.arith.proofs.Counting.{CountedTo, counted-none, counted-all}
 use Rattle.arith.specs.Levels.{total}
 use Rattle.arith.proofs.Levels.{parts-total}
@@ -22,17 +24,20 @@ use Rattle.grid.specs.Questions.{Sound}
 use Rattle.grid.specs.declared.edge.Edge.{Edge}
 use Rattle.mask.specs.Counts.{insideCount, stickCount}
 use Rattle.mask.proofs.Ones.{inside-rows}
-use Rattle.contour.specs.Walk.{first}
+use Rattle.contour.specs.Walk.{first, walked}
 use Rattle.contour.specs.Contours.{walkOf, contourOf, firstSticks, contourCount}
 use Rattle.contour.proofs.Theorems.{total-length}
+use Rattle.drawn.specs.Drawn.{drawnOf}
 use Rattle.held.specs.Questions.{Accepted}
 use Rattle.winding.specs.Turns.{turns, around, isBore, turnsOf}
 use Rattle.winding.proofs.Values.{values}
 use Rattle.winding.proofs.Together.{together}
 use Rattle.winding.proofs.Firsts.{firsts-induct}
-use Rattle.polygon.specs.Polygon.{enclosed}
+use Rattle.polygon.specs.Polygon.{added, taken, enclosed, inside}
+use Rattle.polygon.proofs.Enclosed.{encloses-inside}
 use Rattle.area.specs.Areas.{sumOf, twiceArea, totalOf}
-use Rattle.metal.proofs.Signs.{IsDiff, samplesWithin, samples-diff, contour-near}
+use Rattle.metal.proofs.Fractions.{addedAlong, takenAlong, scaled}
+use Rattle.metal.proofs.Signs.{IsDiff, area-diff, samplesWithin, samples-diff, contour-near, divided, sign-by}
 
 -- ---- sums
 
@@ -82,7 +87,8 @@ module _ {L : Layer} (sound : Sound L) where
       let before = inside-rows-sum n (omega arith) in
       rw (sym (add-one n)) (inside-rows sound before (omega arith) (sym (count-sum (sampleIn L n) w)))
 
-  inside-sum : overSamples L (λ c r. asNumber (sample L c r)) ≡ insideCount L
+  inside-sum : inside L ≡ insideCount L
+  unfolding inside
   inside-sum = counted-all (inside-rows-sum h (omega arith)) (omega arith)
 
   -- of one contour: each sample that it is around has one turn, all of one sign
@@ -121,6 +127,7 @@ module _ {L : Layer} (sound : Sound L) where
       omega (arith, one-diff f is-first, add-parts (samplesWithin L f) (samplesOf L l), turned))
 
   all-samples : samplesOf L (firstSticks L) ≡ pos (131072 * insideCount L)
+  unfolding inside
   all-samples =
       let inside = over-same (λ c r. positivePart (turnsOf L (firstSticks L) c r)) (λ c r. asNumber (sample L c r)) w h
       (λ c r hc hr. ap positivePart (together sound c r hc hr)) in
@@ -171,3 +178,29 @@ module _ {L : Layer} {t : List ℕ} (accepted : Accepted L t) where
         length-map (firstSticks L) (contourOf L),
         ap (λ z. natAbs (totalOf L t -ℤ z)) (all-samples (accepted .sound)),
       )
+
+  -- what the drawn edges of some contours add and take, and the sum of their areas
+  abbrev adds : List Edge → ℕ
+  adds l = total (λ f. addedAlong L t (drawnOf L t f)) l
+
+  abbrev takes : List Edge → ℕ
+  takes l = total (λ f. takenAlong L t (drawnOf L t f)) l
+
+  areas-diff : (l : List Edge) → IsDiff (sumOf (map (twiceArea L t) l)) (adds l) (takes l)
+  areas-diff [] = omega arith
+  areas-diff (f ∷ l) = omega (arith, area-diff L t f, areas-diff l, add-parts (twiceArea L t f) (sumOf (map (twiceArea L t) l)))
+
+  pub total-above : 0 < contourCount L → pos 0 <ℤ totalOf L t
+  total-above some =
+      let sound = accepted .sound in
+      let s = scaled L t accepted in
+      let G : ℕ = 256 * s .M in
+      let n : ℕ = length (walked (walkOf L)) in
+      let has-stick : 0 < n = omega (arith, total-near, total-length L sound) in
+      let balanced =
+      firsts-induct (walkOf L)
+      (λ l. total (added L G (s .o)) l + s .M * s .M * takes l ≡ total (taken L G (s .o)) l + s .M * s .M * adds l)
+      (omega arith)
+      (λ f l is-first e. omega (arith, s .balanced f is-first)) in
+      sign-by false (totalOf L t) (adds (firstSticks L)) (takes (firstSticks L)) n (inside L) (areas-diff (firstSticks L))
+      (divided (s .M) n (inside L) _ _ _ _ has-stick (encloses-inside L sound G (s .o) (s .within)) balanced)

@@ -19,7 +19,7 @@ use Rattle.area.specs.Areas.{sumOf, twiceArea, areasOf, totalOf}
 use Rattle.area.specs.Call.{Outcome}
 
 -- "an outline is a contour that winds around the inside ends of its sticks, a bore one that winds around the outside ends". Turns are counted by the
--- contour's sticks, each of which it crosses once.
+-- contour's sticks (`winding` Turns), and so by the bitmap alone.
 abbrev pub Outline : Layer → Edge → Type 0
 Outline L f = (e : Edge) → isOn L f e ≡ true → turnsInside L f e ≢ pos 0
 
@@ -30,14 +30,16 @@ Bore L f = (e : Edge) → isOn L f e ≡ true → turnsOutside L f e ≢ pos 0
 pub record Metal (L : Layer) (t : List ℕ) : Type 0 where
   -- Every contour is an outline or a bore, and not both: an outline winds around no outside end of its sticks, a bore around no inside end.
   pub one-or-other : (f : Edge) → first (walkOf L) f ≡ true → Outline L f ⊎ Bore L f
-  pub not-both : (f : Edge) → first (walkOf L) f ≡ true → Outline L f → Bore L f → ⊥
+  pub never-both : (f : Edge) → first (walkOf L) f ≡ true → Outline L f → Bore L f → ⊥
   pub outline-only : (f : Edge) → first (walkOf L) f ≡ true → Outline L f → (e : Edge) → isOn L f e ≡ true → turnsOutside L f e ≡ pos 0
   pub bore-only : (f : Edge) → first (walkOf L) f ≡ true → Bore L f → (e : Edge) → isOn L f e ≡ true → turnsInside L f e ≡ pos 0
   -- "Outlines come out positive and bores negative, and this shall be shown"
   pub outline-above : (f : Edge) → first (walkOf L) f ≡ true → Outline L f → pos 0 <ℤ twiceArea L t f
   pub bore-below : (f : Edge) → first (walkOf L) f ≡ true → Bore L f → twiceArea L t f <ℤ pos 0
-  -- A contour's area differs from a square pitch for each sample that it is around by less than half a square pitch for each of its sticks. Of a
-  -- bore both are below 0.
+  -- The total is above 0 where there is a contour.
+  pub total-above : 0 < contourCount L → pos 0 <ℤ totalOf L t
+  -- A contour's area differs from a square pitch for each sample that it is around by less than half a square pitch for each of its sticks. A bore's
+  -- area is below 0, so there the samples are added.
   pub outline-near : (f : Edge) → first (walkOf L) f ≡ true → Outline L f
       → natAbs (twiceArea L t f -ℤ pos (131072 * enclosed L f)) < 65536 * length (contourOf L f)
   pub bore-near : (f : Edge) → first (walkOf L) f ≡ true → Bore L f

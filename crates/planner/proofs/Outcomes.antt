@@ -20,9 +20,7 @@ use Rattle.grid.specs.declared.question.Answer.the-variants.{Yes, No}
 use Rattle.grid.proofs.Answers.{first-only, append-no, append-yes}
 use Rattle.grid.proofs.Numbers.{edges-small}
 use Rattle.contour.specs.Contours.{contourCount}
-use Rattle.bitset.specs.Sets.{setBits, has, memberCount}
-use Rattle.contour.specs.Sets.{FirstSet}
-use Rattle.contour.proofs.FirstSets.{set-count}
+use Rattle.bitset.specs.Sets.{setBits}
 use Rattle.held.specs.Questions.{heldQuestions, Accepted}
 use Rattle.item.specs.Items.{byteOf, bytesOf, floatsOf}
 use Rattle.item.specs.Writing.{buffersOf, atStart, Room}

@@ -1,8 +1,8 @@
--- A sum over the sticks of a contour, cell by cell. At each stick the walk enters one cell, by one side, with inside on the left. So a sum over a
--- list of sticks is one over the cells and their sides, each side as often as it stands in the list. A contour has each of its sticks once, and
+-- A sum over the sticks of a passage, cell by cell. At each stick the walk enters one cell, by one side, with inside on the left. So a sum over a
+-- list of sticks is one over the cells and their sides, each side as often as it stands in the list. A passage has each of its sticks once, and
 -- enters a cell by the sides that the pattern says.
 use mathlib.Core.Path.{_≡_, refl, sym, _∙_, ap}
-use mathlib.Core.Bool.{Bool, true, false, false≢true, xor, Bool·beq}
+use mathlib.Core.Bool.{true, false, false≢true, xor}
 use mathlib.Core.List.{List, [], _∷_}
 use Prim.Native.Nat.{ℕ, _+_, _*_, _-_, _<_}
 use native.Mathlib.Omega.{arith}
@@ -23,16 +23,13 @@ use Rattle.step.specs.declared.cell.Side.{Side}
 use Rattle.step.specs.declared.cell.Side.the-variants.{South, East, North, West}
 use Rattle.step.proofs.Links.{sameSide}
 use Rattle.step.proofs.Walks.{InGrid, left-is, cell-beside, edgeOf-beside}
-use Rattle.contour.specs.Walk.{occurrences, first}
-use Rattle.contour.specs.Contours.{walkOf, sameEdge, contourOf}
-use Rattle.contour.proofs.Members.{once}
-use Rattle.contour.proofs.Sticks.{laws, same-edge, same-self}
-use Rattle.contour.proofs.Theorems.{AllSticks, head-stick, tail-sticks, contour-sticks}
-use Rattle.winding.specs.Turns.{isOn}
+use Rattle.contour.specs.Walk.{occurrences}
+use Rattle.contour.specs.Contours.{walkOf, sameEdge}
+use Rattle.contour.proofs.Sticks.{same-edge, same-self}
+use Rattle.contour.proofs.Theorems.{AllSticks, head-stick, tail-sticks}
 use Rattle.winding.proofs.Cells.{ahead-is}
-use Rattle.winding.proofs.Contours.{on-is, off, first-stick, on-stick}
-use Rattle.polygon.proofs.CellSums.{pattern, overSides, enters}
-use Rattle.polygon.proofs.Patterns.{side-on, on-left, on-partner}
+use Rattle.polygon.proofs.CellSums.{overSides, entersBy}
+use Rattle.polygon.proofs.Passages.{Passage, PassageLaws, pattern}
 
 side-self : (s : Side) → sameSide s s ≡ true
 side-self South = refl
@@ -126,39 +123,39 @@ module _ (L : Layer) (v : Edge → Edge → ℕ) where
   abbrev pub step : Edge → ℕ
   step e = v e (next L e)
 
-  abbrev pub stepIn : Edge → ℕ → ℕ → Side → ℕ
+  abbrev pub stepIn : Passage → ℕ → ℕ → Side → ℕ
   unfolding xor
-  stepIn f c r s = let k : Corners = pattern L f c r in asNumber (enters k s) * v (edgeOn c r s) (edgeOn c r (partner k s))
+  stepIn P c r s = let k : Corners = pattern P c r in asNumber (entersBy k s) * v (edgeOn c r s) (edgeOn c r (partner k s))
 
-module _ (L : Layer) (sound : Sound L) (f : Edge) (is-first : first (walkOf L) f ≡ true) (v : Edge → Edge → ℕ) where
+module _ (L : Layer) (sound : Sound L) (P : Passage) (lawful : PassageLaws L P) (v : Edge → Edge → ℕ) where
   abbrev often : Edge → ℕ
-  often e = occurrences (walkOf L) e (contourOf L f)
+  often e = occurrences (walkOf L) e (P .sticks)
+
+  all-sticks : AllSticks L (P .sticks)
+  all-sticks e o = both-sides (P .on e) (lawful .on-stick e) (λ n. absurd (omega (arith, lawful .often e, ap asNumber n)))
 
   side-step : (c r : ℕ) → c + 1 < L .size .width → r + 1 < L .size .height → (s : Side)
-      → stepIn L v f c r s ≡ gives L sound (step L v) often c r s
+      → stepIn L v P c r s ≡ gives L sound (step L v) often c r s
   unfolding xor next
   side-step c r hc hr s =
       let e : Edge = edgeOn c r s in
-      let cut-is = side-on sound f is-first c r hc hr s in
-      both-sides (isOn L f e)
-      (λ on.
-      let once-on : often e ≡ 1 = omega (arith, on-is L f e on, once (walkOf L) (laws L sound) f e (first-stick sound f is-first)) in
-      let left-as = on-left sound f is-first c r hc hr s on in
-      both-sides (insideLeft (corners L c r) s)
+      let side = lawful .by-side c r hc hr s in
+      both-sides (P .on e)
+      (λ on. both-sides (insideLeft (corners L c r) s)
       (λ left.
-      let here = ahead-is sound (sideOf c r s) (on-stick sound f is-first e on) left in
-      let next-is : next L e ≡ edgeOn c r (partner (pattern L f c r) s) =
-      ap (λ (q : CellSide). edgeOf (link L q)) here ∙ ap (edgeOn c r) (on-partner sound f is-first c r hc hr s on) in
-      rw (once-on, next-is, left-as, sym cut-is ∙ on) (omega arith))
-      (λ right. rw (← left-as, right, sym cut-is ∙ on) (omega arith)))
-      (λ n. rw (off L f e .0 n, sym cut-is ∙ n) (omega arith))
+      let here = ahead-is sound (sideOf c r s) (lawful .on-stick e on) left in
+      let next-is : next L e ≡ edgeOn c r (partner (pattern P c r) s) =
+      ap (λ (q : CellSide). edgeOf (link L q)) here ∙ ap (edgeOn c r) (side .on-partner on) in
+      rw (lawful .often e, on, next-is, side .on-left on, sym (side .side-on) ∙ on) (omega arith))
+      (λ right. rw (← side .on-left on, right, sym (side .side-on) ∙ on) (omega arith)))
+      (λ n. rw (lawful .often e, n, sym (side .side-on) ∙ n) (omega arith))
 
-  -- the sum over the steps of a contour is that over the steps in each cell
-  pub by-cells : overCells L (λ c r. overSides (stepIn L v f c r)) ≡ total (step L v) (contourOf L f)
+  -- the sum over all steps is that over the steps in each cell
+  pub by-cells : overCells L (λ c r. overSides (stepIn L v P c r)) ≡ total (step L v) (P .sticks)
   unfolding xor
   by-cells =
-      over-same (λ c r. overSides (stepIn L v f c r)) (cellGives L sound (step L v) often) (cellColumns L) (cellRows L)
+      over-same (λ c r. overSides (stepIn L v P c r)) (cellGives L sound (step L v) often) (cellColumns L) (cellRows L)
       (λ c r a b.
-      let same : (s : Side) → stepIn L v f c r s ≡ gives L sound (step L v) often c r s = side-step c r (omega arith) (omega arith) in
+      let same : (s : Side) → stepIn L v P c r s ≡ gives L sound (step L v) often c r s = side-step c r (omega arith) (omega arith) in
       omega (arith, same South, same East, same North, same West))
-      ∙ list-gives L sound (step L v) (contourOf L f) (contour-sticks sound f (first-stick sound f is-first))
+      ∙ list-gives L sound (step L v) (P .sticks) all-sticks

@@ -1,39 +1,29 @@
--- One cell of the grid with the edges of the polygon in it. The pattern k says how the contour passes the cell: its sticks are the sides that k
--- cuts, linked as the cell's rule links them, and walked with the true corners on the left. For an outline the true corners are the enclosed ones,
--- for a bore the others.
+-- One cell of the grid with the edges of the polygon in it. The pattern k says how the polygon passes the cell: its sticks are the sides that k
+-- cuts, linked as the cell's rule links them, and walked with the true corners on the left. For a bore the enclosed corners are the others, else
+-- the true ones.
 use mathlib.Core.Bool.{Bool, cond, not, xor, _&&_}
 use Prim.Native.Nat.{ℕ, _+_, _*_, _-_, _≤_}
 use Rattle.arith.specs.Booleans.{asNumber}
-use Rattle.grid.specs.Layer.{Layer}
 use Rattle.grid.specs.declared.edge.Edge.{Edge}
 use Rattle.step.specs.Cells.{Corners, startCorner, cut, partner, edgeOn}
 use Rattle.step.specs.Turns.{insideLeft}
 use Rattle.step.specs.declared.cell.Side.{Side}
 use Rattle.step.specs.declared.cell.Side.the-variants.{South, East, North, West}
-use Rattle.winding.specs.Turns.{around, isBore}
 use Rattle.polygon.specs.Polygon.{xAt, yAt}
-
--- how the contour that starts at f passes the cell at (c, r): the corners on its left
-abbrev pub onLeft : Layer → Edge → ℕ → ℕ → Bool
-onLeft L f c r = cond (isBore L f) (not (around L f c r)) (around L f c r)
-
-abbrev pub pattern : Layer → Edge → ℕ → ℕ → Corners
-pattern L f c r =
-    record { sw = onLeft L f c r; se = onLeft L f (c + 1) r; nw = onLeft L f c (r + 1); ne = onLeft L f (c + 1) (r + 1) }
 
 -- the sum over the four sides
 abbrev pub overSides : (Side → ℕ) → ℕ
 overSides n = n South + n East + n North + n West
 
--- the contour enters the cell by the side
-abbrev pub enters : Corners → Side → Bool
+-- the walk enters the cell by the side
+abbrev pub entersBy : Corners → Side → Bool
 unfolding xor
-enters k s = cut k s && insideLeft k s
+entersBy k s = cut k s && insideLeft k s
 
--- how many of the polygon's edges are in the cell, and what they add and take
+-- how many of the polygon's edges are in the cell
 abbrev pub linksIn : Corners → ℕ
 unfolding xor
-linksIn k = overSides (λ s. asNumber (enters k s))
+linksIn k = overSides (λ s. asNumber (entersBy k s))
 
 -- a corner is enclosed
 abbrev pub isEnclosed : Bool → Bool → Bool
@@ -44,13 +34,14 @@ cornersIn bore k =
     asNumber (isEnclosed bore (k .sw)) + asNumber (isEnclosed bore (k .se)) + asNumber (isEnclosed bore (k .nw)) + asNumber (isEnclosed bore (k .ne))
 
 module _ (G : ℕ) (o : Edge → ℕ) (c r : ℕ) (k : Corners) where
+  -- what they add, and what they take
   abbrev pub addedIn : ℕ
   unfolding xor
-  addedIn = overSides (λ s. asNumber (enters k s) * (xAt G o (edgeOn c r s) * yAt G o (edgeOn c r (partner k s))))
+  addedIn = overSides (λ s. asNumber (entersBy k s) * (xAt G o (edgeOn c r s) * yAt G o (edgeOn c r (partner k s))))
 
   abbrev pub takenIn : ℕ
   unfolding xor
-  takenIn = overSides (λ s. asNumber (enters k s) * (xAt G o (edgeOn c r (partner k s)) * yAt G o (edgeOn c r s)))
+  takenIn = overSides (λ s. asNumber (entersBy k s) * (xAt G o (edgeOn c r (partner k s)) * yAt G o (edgeOn c r s)))
 
   -- how much of a side is enclosed: all or nothing, or the part up to the vertex or from it
   abbrev pub partOf : Bool → Side → ℕ
@@ -60,7 +51,7 @@ module _ (G : ℕ) (o : Edge → ℕ) (c r : ℕ) (k : Corners) where
       (cond (isEnclosed bore (startCorner k s)) (o (edgeOn c r s)) (G - o (edgeOn c r s)))
       (cond (isEnclosed bore (startCorner k s)) G 0)
 
-  -- Twice the enclosed area in the cell is more less less: the polygon's edges in it, and the enclosed parts of its sides, taken round it
+  -- Twice the enclosed area in the cell is `moreIn` less `lessIn`: the polygon's edges in it, and the enclosed parts of its sides, taken round it
   -- with the enclosed on the left.
   abbrev pub moreIn : Bool → ℕ
   unfolding xor
@@ -70,8 +61,8 @@ module _ (G : ℕ) (o : Edge → ℕ) (c r : ℕ) (k : Corners) where
   unfolding xor
   lessIn bore = cond bore addedIn takenIn + G * c * partOf bore West + G * r * partOf bore South
 
--- Of one cell: that area is at least a half for each link, and differs by less than half a square for each link from a quarter square for each
--- enclosed corner. All is doubled.
+-- Of one cell: that area is at least half a unit for each link, and differs by less than half a square pitch for each link from a quarter of one for
+-- each enclosed corner. Areas are doubled in `above`, and doubled again in the other two.
 pub record CellBounds (G n corners more less : ℕ) : Type 0 where
   pub above : less + n ≤ more
   pub least : 2 * less + G * G * corners + 2 * n ≤ 2 * more + 2 * (G * G * n)

@@ -1,15 +1,18 @@
--- The pattern by which a contour passes a cell. At the ends of a stick of the contour the samples on its left are the inside ones, and at the ends
--- of any other edge they agree: so the pattern cuts the contour's sticks and no others. Of those the cell's rule links the same two by the
--- pattern as by the samples, which is a test of all pairs of patterns.
+-- One contour, and all together, keep the laws of a passage. All together pass a cell by the samples themselves. Of one contour: at the ends of a
+-- stick of it the samples on its left are the inside ones, and at the ends of any other edge they agree, so the pattern cuts the contour's sticks
+-- and no others. Of those the cell's rule links the same two by the pattern as by the samples, which is a test of all pairs of patterns.
 use mathlib.Core.Path.{_≡_, refl, ap, sym, _∙_}
 use mathlib.Core.Bool.{Bool, true, false, cond, not, xor, _&&_, _||_, Bool·beq}
 use Prim.Native.Nat.{ℕ, _+_, _<_}
+use native.Mathlib.Omega.{arith}
 use lib.IntN.{ℤ, pos, negsuc}
+use Rattle.arith.specs.Booleans.{asNumber}
 use Rattle.arith.proofs.Booleans.{both-sides, implied}
 use Rattle.grid.specs.Layer.{Layer}
 use Rattle.grid.specs.Edges.{inGrid, firstEnd, secondEnd}
 use Rattle.grid.specs.Questions.{Sound}
 use Rattle.grid.specs.declared.edge.Edge.{Edge}
+use Rattle.grid.proofs.Borders as Borders
 use Rattle.step.specs.Cells.{Corners, corners, cut, partner, edgeOn}
 use Rattle.step.specs.Turns.{insideLeft}
 use Rattle.step.specs.declared.cell.Side.{Side}
@@ -18,14 +21,18 @@ use Rattle.step.proofs.Links.{every, at, sameSide, same-side}
 use Rattle.step.proofs.Walks.{stick-differs, xor-not}
 use Rattle.contour.specs.Walk.{first}
 use Rattle.contour.specs.Contours.{walkOf}
+use Rattle.contour.proofs.Members.{once}
+use Rattle.contour.proofs.Sticks.{laws}
+use Rattle.contour.proofs.Theorems.{permutation}
 use Rattle.winding.specs.Turns.{isOn, isBore, turnsAtFirst, turnsAtSecond}
-use Rattle.winding.proofs.Contours.{on-stick}
+use Rattle.winding.proofs.Contours.{on-is, off, first-stick, on-stick}
+use Rattle.winding.proofs.Border.{border}
 use Rattle.winding.proofs.Cells.{side-cut, on-linked}
 use Rattle.winding.proofs.Columns.{jump-off}
 use Rattle.winding.proofs.Along.{side-in}
 use Rattle.winding.proofs.Counts.{anyTurns}
 use Rattle.winding.proofs.Values.{inside-value, outside-value}
-use Rattle.polygon.proofs.CellSums.{pattern}
+use Rattle.polygon.proofs.Passages.{contourPassage, layerPassage, pattern, PassageLaws}
 
 -- whether a sample is on the contour's left, by the turns around it
 abbrev leftBy : Bool → ℤ → Bool
@@ -98,24 +105,48 @@ module _ {L : Layer} (sound : Sound L) (f : Edge) (is-first : first (walkOf L) f
       (λ off. off ∙ same-none (leftFirst e) ∙ ap (λ (z : ℤ). xor (leftFirst e) (leftBy (isBore L f) z)) (jump-off sound f is-first e h off))
 
   module _ (c r : ℕ) (hc : c + 1 < L .size .width) (hr : r + 1 < L .size .height) where
-    pub side-on : (s : Side) → isOn L f (edgeOn c r s) ≡ cut (pattern L f c r) s
+    abbrev k : Corners
+    k = pattern (contourPassage L f) c r
+
+    side-on : (s : Side) → isOn L f (edgeOn c r s) ≡ cut k s
     unfolding xor
     side-on South = on-differs (edgeOn c r South) (side-in sound f is-first c r hc hr South)
     side-on East = on-differs (edgeOn c r East) (side-in sound f is-first c r hc hr East)
     side-on North = on-differs (edgeOn c r North) (side-in sound f is-first c r hc hr North)
     side-on West = on-differs (edgeOn c r West) (side-in sound f is-first c r hc hr West)
 
-    pub on-left : (s : Side) → isOn L f (edgeOn c r s) ≡ true → insideLeft (corners L c r) s ≡ insideLeft (pattern L f c r) s
+    on-left : (s : Side) → isOn L f (edgeOn c r s) ≡ true → insideLeft (corners L c r) s ≡ insideLeft k s
     on-left South on = sym (on-ends (edgeOn c r South) on .0)
     on-left East on = sym (on-ends (edgeOn c r East) on .0)
     on-left North on = sym (on-ends (edgeOn c r North) on .1)
     on-left West on = sym (on-ends (edgeOn c r West) on .1)
 
-    pub on-partner : (s : Side) → isOn L f (edgeOn c r s) ≡ true → partner (corners L c r) s ≡ partner (pattern L f c r) s
-    on-partner s on = same-partner (corners L c r) (pattern L f c r) s agreed (sym (side-on s) ∙ on)
+    on-partner : (s : Side) → isOn L f (edgeOn c r s) ≡ true → partner (corners L c r) s ≡ partner k s
+    on-partner s on = same-partner (corners L c r) k s agreed (sym (side-on s) ∙ on)
       where
-        agreed : (t : Side) → cut (pattern L f c r) t ≡ true → Agree (corners L c r) (pattern L f c r) t
+        agreed : (t : Side) → cut k t ≡ true → Agree (corners L c r) k t
         agreed t h =
             let on = side-on t ∙ h in
             let stick = sym (side-cut sound c r hc hr t) ∙ on-stick sound f is-first (edgeOn c r t) on in
             (stick, on-left t on, sym (side-on (partner (corners L c r) t)) ∙ on-linked sound f is-first c r hc hr t stick ∙ on)
+
+  pub contour-lawful : PassageLaws L (contourPassage L f)
+  contour-lawful =
+      record {
+        often = λ e. both-sides (isOn L f e)
+            (λ on. omega (arith, ap asNumber on, on-is L f e on, once (walkOf L) (laws L sound) f e (first-stick sound f is-first)))
+            (λ n. off L f e .0 n ∙ ap asNumber (sym n));
+        on-stick = on-stick sound f is-first;
+        by-side = λ c r hc hr s. record { side-on = side-on c r hc hr s; on-left = on-left c r hc hr s; on-partner = on-partner c r hc hr s };
+        border = λ c r hc hr b. rw (border sound f is-first c r hc hr b);
+      }
+
+-- all contours together
+pub layer-lawful : {L : Layer} → Sound L → PassageLaws L (layerPassage L)
+layer-lawful {L} sound =
+    record {
+      often = permutation L sound;
+      on-stick = λ e stick. stick;
+      by-side = λ c r hc hr s. record { side-on = side-cut sound c r hc hr s; on-left = λ on. refl; on-partner = λ on. refl };
+      border = λ c r hc hr b. sym (Borders.on-border L c r b) ∙ sound .border c r hc hr;
+    }

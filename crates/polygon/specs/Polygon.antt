@@ -7,10 +7,12 @@ use lib.ListN.{length}
 use Rattle.arith.specs.Booleans.{asNumber}
 use Rattle.arith.specs.Finite.{sumOver}
 use Rattle.arith.specs.Levels.{total}
-use Rattle.grid.specs.Layer.{Layer}
+use Rattle.grid.specs.Layer.{Layer, sample}
+use Rattle.grid.specs.Edges.{isStick}
 use Rattle.grid.specs.declared.edge.Edge.{Edge}
 use Rattle.step.specs.Walk.{next}
-use Rattle.contour.specs.Contours.{contourOf}
+use Rattle.contour.specs.Walk.{walked}
+use Rattle.contour.specs.Contours.{walkOf, contourOf, firstSticks}
 use Rattle.winding.specs.Turns.{isOn, around, isBore}
 
 -- the vertex on e
@@ -32,9 +34,17 @@ taken L G o f = total (λ e. xAt G o (next L e) * yAt G o e) (contourOf L f)
 unfoldable pub enclosed : Layer → Edge → ℕ
 enclosed L f = sumOver (λ c r. asNumber (around L f c r)) (L .size .width) (L .size .height)
 
+-- how many samples are inside
+unfoldable pub inside : Layer → ℕ
+inside L = sumOver (λ c r. asNumber (sample L c r)) (L .size .width) (L .size .height)
+
 -- the vertex on each stick of the contour lies strictly inside it
 abbrev pub Offsets : Layer → ℕ → (Edge → ℕ) → Edge → Type 0
 Offsets L G o f = (e : Edge) → isOn L f e ≡ true → (0 < o e) × (o e < G)
+
+-- and that on each stick of the layer
+abbrev pub AllOffsets : Layer → ℕ → (Edge → ℕ) → Type 0
+AllOffsets L G o = (e : Edge) → isStick L e ≡ true → (0 < o e) × (o e < G)
 
 -- `more` is more than `less` by twice an area, in 1/(G × G) of a square pitch: at least half a unit for each of n sticks, and less than n/2 square
 -- pitches from N of them
@@ -49,3 +59,8 @@ abbrev pub EnclosedBy : Layer → ℕ → (Edge → ℕ) → Edge → Type 0
 EnclosedBy L G o f =
     Encloses G (length (contourOf L f)) (enclosed L f)
     (cond (isBore L f) (taken L G o f) (added L G o f)) (cond (isBore L f) (added L G o f) (taken L G o f))
+
+-- The polygons of all contours together add more than they take, by about a square pitch for each inside sample.
+abbrev pub EnclosesInside : Layer → ℕ → (Edge → ℕ) → Type 0
+EnclosesInside L G o =
+    Encloses G (length (walked (walkOf L))) (inside L) (total (added L G o) (firstSticks L)) (total (taken L G o) (firstSticks L))

@@ -59,6 +59,9 @@ pub fn one_if(b: bool) -> usize
     if b { 1 } else { 0 }
 }
 
+// The largest figure: in two's complement, −1.
+const ALL_ONES: usize = 18446744073709551615;
+
 // A signed number as a figure: below 0 in two's complement.
 pub fn figure_of(z: i64) -> usize
     ensures { λ r. ⌜ r ≡ twosComplement z ⌝ }
@@ -66,6 +69,6 @@ pub fn figure_of(z: i64) -> usize
     if z >= 0 {
         z as usize
     } else {
-        18446744073709551615 - (-1 - z) as usize
+        ALL_ONES - (-1 - z) as usize
     }
 }

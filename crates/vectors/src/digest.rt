@@ -1,5 +1,5 @@
 // The digest of a table or of an output: a number below 2^31 - 1 that tells them apart well enough.
-// The contract says what it is.
+// For tables and bytes the contract says what it is.
 ghost use mathlib.Core.Path.{_≡_};
 ghost use Prim.Native.Nat.{_<_};
 ghost use Rattle.vectors.specs.Digest.{mixed, digestOf};

@@ -100,8 +100,8 @@ puzhenim draw IN [SHEET] -o PICTURE [--pad]
 Draws the layer and the contours of the sheet, without one the traced contours,
 as SVG. Samples and vertices are marked unless the grid is too fine for it,
 pinned vertices by a square. The legend has the areas of the outlines and of the
-bores, each summed up, and the total, in square samples to two decimals with the
-exact number in 1/131072 of a square sample beside it.
+bores, each summed up, and the total, in square samples with the exact number in
+1/131072 of a square sample beside it.
 
   -o PICTURE   where the picture goes
   --pad        add an outside sample all round to a PBM

@@ -101,7 +101,7 @@ fn in_rows(frame: &Frame, entries: Vec<Entry>) -> Vec<Vec<Entry>> {
 
 /// An area in square samples, and exactly.
 fn measured(area: Area) -> String {
-    format!("area {:.2} ({})", area.square_samples(), area.0)
+    format!("area {:.6} ({})", area.square_samples(), area.0)
 }
 
 /// The contours with their areas, those of a kind summed up.
@@ -116,7 +116,7 @@ fn contours(shapes: &Shapes, areas: &Areas) -> Vec<Entry> {
         entries.push(Entry { symbol: Symbol::Contour("bore"), text });
     }
     if !areas.contours.is_empty() {
-        let text = format!("total {:.2} square samples ({} in 1/131072)", areas.total.square_samples(), areas.total.0);
+        let text = format!("total {:.6} square samples ({} in 1/131072)", areas.total.square_samples(), areas.total.0);
         entries.push(Entry { symbol: Symbol::Blank, text });
     }
     entries
