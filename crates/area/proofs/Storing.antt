@@ -115,16 +115,16 @@ module _ {L : Layer} {t : List ℕ} {found : List ℤ} where
           }
 
     -- `stored` is the number as it is stored
-    pub measured-turn : {area stored sum′ : ℤ} {c′ : Cursor} → AreaFound L t (c .stick) area → stored ≡ area → sum′ ≡ sum +ℤ area
-        → Moved L c c′ → PartMeasured L t found (set buffer place stored) sum′ (place + 1) c′
-    measured-turn {area} {stored} {sum′} {c′} found-area stored-is sum-is moved =
+    pub measured-turn : {area stored sum′ : ℤ} {place′ : ℕ} {c′ : Cursor} → AreaFound L t (c .stick) area → stored ≡ area → sum′ ≡ sum +ℤ area
+        → place′ ≡ place + 1 → Moved L c c′ → PartMeasured L t found (set buffer place stored) sum′ place′ c′
+    measured-turn {area} {stored} {sum′} {place′} {c′} found-area stored-is sum-is place-is moved =
         let later = left L c′ in
         let passed : left L c ≡ c .stick ∷ later = moved .left in
         record {
           placed = moved .placed;
-          stored = rw (add-one place, stored-is ∙ found-area .is) (rw passed at (part .stored));
+          stored = rw (place-is, add-one place, stored-is ∙ found-area .is) (rw passed at (part .stored));
           same-length = length-set buffer place stored ∙ part .same-length;
-          counted = omega (arith, part .counted, ap (λ (l : List Edge). length l) passed);
+          counted = omega (arith, place-is, part .counted, ap (λ (l : List Edge). length l) passed);
           summed =
               ap (λ (z : ℤ). z +ℤ sumOf (areasAlong L t later)) (sum-is ∙ ap (λ (z : ℤ). sum +ℤ z) (found-area .is))
               ∙ +ℤ-assoc sum (twiceArea L t (c .stick)) (sumOf (areasAlong L t later))

@@ -1,6 +1,6 @@
 -- Booleans by cases and taken apart: the laws of `Rattle.arith.specs.Booleans`, and what a test that came out true or false gives.
 use mathlib.Core.Path.{_≡_, refl, sym, subst}
-use mathlib.Core.Bool.{Bool, true, false, false≢true, not, _&&_, _||_, Bool·beq}
+use mathlib.Core.Bool.{Bool, true, false, false≢true, not, xor, _&&_, _||_, Bool·beq}
 use Prim.Native.Nat.{_≤_}
 use native.Mathlib.Omega.{arith}
 use lib.Dec.{T}
@@ -32,6 +32,11 @@ beq→eq false false t = refl
 pub beq-self : (b : Bool) → Bool·beq b b ≡ true
 beq-self true = refl
 beq-self false = refl
+
+pub xor-self : (b : Bool) → xor b b ≡ false
+unfolding xor
+xor-self true = refl
+xor-self false = refl
 
 pub beq-yes : (a b : Bool) → Bool·beq a b ≡ true → a ≡ b
 beq-yes a b e = beq→eq a b (subst T (sym e) tt)

@@ -107,8 +107,12 @@ pub ruleset arithℤ = (arith, le-parts, lt-parts, eq-parts, leZ-true, leZ-false
 
 -- ---- z as a difference of two naturals
 
+-- z is p − n
+abbrev pub IsDiff : ℤ → ℕ → ℕ → Type 0
+IsDiff z p n = positivePart z + n ≡ p + negativePart z
+
 pub data Diff (z : ℤ) : Type 0 where
-  diff : (p n : ℕ) → positivePart z + n ≡ p + negativePart z → Diff z
+  diff : (p n : ℕ) → IsDiff z p n → Diff z
 
 abbrev pub plus : {z : ℤ} → Diff z → ℕ
 plus (diff p n e) = p
@@ -116,7 +120,7 @@ plus (diff p n e) = p
 abbrev pub minus : {z : ℤ} → Diff z → ℕ
 minus (diff p n e) = n
 
-diff-is : {z : ℤ} (d : Diff z) → positivePart z + minus d ≡ plus d + negativePart z
+diff-is : {z : ℤ} (d : Diff z) → IsDiff z (plus d) (minus d)
 diff-is (diff p n e) = e
 
 -- any integer, and the two literals

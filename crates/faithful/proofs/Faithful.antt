@@ -5,6 +5,7 @@ use mathlib.Core.Logic.{_≢_}
 use mathlib.Core.Bool.{Bool, true, false, xor, and-false}
 use mathlib.Core.List.{List}
 use Prim.Native.Nat.{ℕ}
+use Rattle.arith.proofs.Booleans.{xor-self}
 use Rattle.grid.specs.Layer.{Layer}
 use Rattle.grid.specs.Edges.{inGrid, firstEnd, secondEnd, isStick}
 use Rattle.grid.specs.Questions.{firstNo}
@@ -24,11 +25,6 @@ xor-differ true true d = absurd (d refl)
 xor-differ true false d = refl
 xor-differ false true d = refl
 xor-differ false false d = absurd (d refl)
-
-xor-self : (a : Bool) → xor a a ≡ false
-unfolding xor
-xor-self true = refl
-xor-self false = refl
 
 -- "An edge whose samples differ is a stick", and no other is
 module _ (L : Layer) (e : Edge) where

@@ -11,8 +11,7 @@ use lib.IntN.{ℤ, pos, negℤ, natAbs, _+ℤ_, _-ℤ_, negℤ-negℤ}
 use lib.ListN.{length}
 use lib.Signed.{_<ℤ_}
 use Rattle.arith.proofs.Booleans.{both-sides}
-use Rattle.arith.specs.Integers.{positivePart, negativePart}
-use Rattle.arith.proofs.Integers.{arithℤ, add-parts, neg-parts, natAbs-parts}
+use Rattle.arith.proofs.Integers.{IsDiff, arithℤ, add-parts, neg-parts, natAbs-parts}
 use Rattle.grid.specs.Layer.{Layer}
 use Rattle.grid.specs.Questions.{Sound}
 use Rattle.grid.specs.declared.edge.Edge.{Edge}
@@ -60,10 +59,6 @@ module _ {L : Layer} (sound : Sound L) (f : Edge) (is-first : first (walkOf L) f
   bore-only out e on = inside-value sound f is-first e on ∙ rw (bore out)
 
 -- ---- integers as differences
-
--- z is a − b
-abbrev pub IsDiff : ℤ → ℕ → ℕ → Type 0
-IsDiff z a b = positivePart z + b ≡ a + negativePart z
 
 sub-diff : (a b : ℕ) → IsDiff (pos a -ℤ pos b) a b
 sub-diff a b = omega (arith, add-parts (pos a) (negℤ (pos b)), neg-parts (pos b))

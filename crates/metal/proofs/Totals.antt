@@ -17,7 +17,7 @@ use Rattle.arith.proofs.Counting.{CountedTo, counted-none, counted-all}
 use Rattle.arith.specs.Levels.{total}
 use Rattle.arith.proofs.Levels.{parts-total}
 use Rattle.arith.specs.Integers.{positivePart, negativePart}
-use Rattle.arith.proofs.Integers.{arithℤ, add-parts, neg-parts, natAbs-parts}
+use Rattle.arith.proofs.Integers.{IsDiff, arithℤ, add-parts, neg-parts, natAbs-parts}
 use Rattle.arith.proofs.Sums.{over-same, over-add, over-none, over-times}
 use Rattle.grid.specs.Layer.{Layer, sample, sampleIn, sampleAt}
 use Rattle.grid.specs.Questions.{Sound}
@@ -37,7 +37,7 @@ use Rattle.polygon.specs.Polygon.{added, taken, enclosed, inside}
 use Rattle.polygon.proofs.Enclosed.{encloses-inside}
 use Rattle.area.specs.Areas.{sumOf, twiceArea, totalOf}
 use Rattle.metal.proofs.Fractions.{addedAlong, takenAlong, scaled}
-use Rattle.metal.proofs.Signs.{IsDiff, area-diff, samplesWithin, samples-diff, contour-near, divided, sign-by}
+use Rattle.metal.proofs.Signs.{area-diff, samplesWithin, samples-diff, contour-near, divided, sign-by}
 
 -- ---- sums
 

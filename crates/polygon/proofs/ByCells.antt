@@ -27,8 +27,8 @@ use Rattle.contour.specs.Walk.{occurrences}
 use Rattle.contour.specs.Contours.{walkOf, sameEdge}
 use Rattle.contour.proofs.Sticks.{same-edge, same-self}
 use Rattle.contour.proofs.Theorems.{AllSticks, head-stick, tail-sticks}
-use Rattle.winding.proofs.Cells.{ahead-is}
-use Rattle.polygon.proofs.CellSums.{overSides, entersBy}
+use Rattle.winding.proofs.Cells.{overSides, ahead-is}
+use Rattle.polygon.proofs.CellSums.{entersBy}
 use Rattle.polygon.proofs.Passages.{Passage, PassageLaws, pattern}
 
 side-self : (s : Side) → sameSide s s ≡ true

@@ -9,11 +9,8 @@ use Rattle.step.specs.Cells.{Corners, startCorner, cut, partner, edgeOn}
 use Rattle.step.specs.Turns.{insideLeft}
 use Rattle.step.specs.declared.cell.Side.{Side}
 use Rattle.step.specs.declared.cell.Side.the-variants.{South, East, North, West}
+use Rattle.winding.proofs.Cells.{overSides}
 use Rattle.polygon.specs.Polygon.{xAt, yAt}
-
--- the sum over the four sides
-abbrev pub overSides : (Side → ℕ) → ℕ
-overSides n = n South + n East + n North + n West
 
 -- the walk enters the cell by the side
 abbrev pub entersBy : Corners → Side → Bool

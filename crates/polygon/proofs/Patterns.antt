@@ -7,7 +7,7 @@ use Prim.Native.Nat.{ℕ, _+_, _<_}
 use native.Mathlib.Omega.{arith}
 use lib.IntN.{ℤ, pos, negsuc}
 use Rattle.arith.specs.Booleans.{asNumber}
-use Rattle.arith.proofs.Booleans.{both-sides, implied}
+use Rattle.arith.proofs.Booleans.{both-sides, implied, xor-self}
 use Rattle.grid.specs.Layer.{Layer}
 use Rattle.grid.specs.Edges.{inGrid, firstEnd, secondEnd}
 use Rattle.grid.specs.Questions.{Sound}
@@ -45,11 +45,6 @@ ends-left true true x y i o = (ap (leftBy true) i, ap (leftBy true) o)
 ends-left true false x y i o = (ap (leftBy true) o, ap (leftBy true) i)
 ends-left false true x y i o = (ap (leftBy false) i, ap (leftBy false) o)
 ends-left false false x y i o = (ap (leftBy false) o, ap (leftBy false) i)
-
-same-none : (b : Bool) → false ≡ xor b b
-unfolding xor
-same-none true = refl
-same-none false = refl
 
 -- Two patterns k and k′ at a side that k′ cuts: k cuts it too, with the same corner on the left, and links it to one that k′ cuts. If this holds
 -- of every side that k′ cuts, both patterns link these alike, by a test computed over all k and k′.
@@ -102,7 +97,7 @@ module _ {L : Layer} (sound : Sound L) (f : Edge) (is-first : first (walkOf L) f
   on-differs e h =
       both-sides (isOn L f e)
       (λ on. on ∙ sym (differs e on) ∙ sym (λ i. xor (on-ends e on .0 i) (on-ends e on .1 i)))
-      (λ off. off ∙ same-none (leftFirst e) ∙ ap (λ (z : ℤ). xor (leftFirst e) (leftBy (isBore L f) z)) (jump-off sound f is-first e h off))
+      (λ off. off ∙ sym (xor-self (leftFirst e)) ∙ ap (λ (z : ℤ). xor (leftFirst e) (leftBy (isBore L f) z)) (jump-off sound f is-first e h off))
 
   module _ (c r : ℕ) (hc : c + 1 < L .size .width) (hr : r + 1 < L .size .height) where
     abbrev k : Corners

@@ -26,8 +26,8 @@ use Rattle.contour.specs.Contours.{walkOf}
 use Rattle.winding.specs.Turns.{isOn, dirOn, east, north}
 use Rattle.winding.proofs.Contours.{on-stick, off-stick, on-next}
 
--- the link permutes the sides, so that a sum over the sides is that over the linked ones
-abbrev overSides : (Side → ℕ) → ℕ
+-- the sum over the four sides, which is that over the linked ones, since the link permutes them
+abbrev pub overSides : (Side → ℕ) → ℕ
 overSides n = n South + n East + n North + n West
 
 sides-linked : (n : Side → ℕ) (sw se nw ne : Bool)

@@ -60,7 +60,7 @@ loop-again c =
     let so-far = measured-small (at-loop .loop .inv) (start at-loop .pre .0) in
     let one = area-small (here (measured .before)) (measured .contour-area .ensures) in
     measured-turn (at-loop .loop .inv) (measured .contour-area .ensures) (exact (search sized depth 9) tt) (exact (search sized depth 9) tt)
-    (c .next-contour .ensures)
+    (omega arith) (c .next-contour .ensures)
 
 returns : tie.Need-returns Inv-loop μ-loop
 returns c =
