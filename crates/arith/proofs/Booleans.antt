@@ -19,6 +19,10 @@ pub and-split : (a b : Bool) → (a && b) ≡ true → (a ≡ true) × (b ≡ tr
 and-split true b e = (refl, e)
 and-split false b e = absurd (false≢true e)
 
+pub and-short : (a b : Bool) → b ≡ false → (a && b) ≡ false
+and-short true b e = e
+and-short false b e = refl
+
 pub and-T : (a b : Bool) → T (a && b) → T a × T b
 and-T true b t = (tt, t)
 and-T false b t = absurd t

@@ -4,6 +4,7 @@
 pub mod Orbit
 pub mod Members
 pub mod First
+pub mod Numbered
 pub mod Contours
 pub mod Loop
 pub mod Outer

@@ -1,21 +1,19 @@
 -- Orders of a walk's elements: a fold gives the same over two lists that have each element equally often, if any two different ones commute; and the
 -- list of first elements has each of them once. So work that is done contour by contour may be done in any order of the contours, where two commute.
 use mathlib.Core.Path.{_≡_, refl, sym, _∙_, ap}
-use mathlib.Core.Logic.{_≢_, inl, inr}
-use mathlib.Core.Bool.{true≢false}
+use mathlib.Core.Logic.{_≢_}
 use mathlib.Core.List.{List, [], _∷_, _++_, foldl}
-use Prim.Native.Nat.{ℕ, _+_, _≤_, _<_}
-use native.Mathlib.Nat.{eq-zero-or-pos}
+use Prim.Native.Nat.{_+_, _<_}
 use native.Mathlib.Omega.{arith}
 use Rattle.arith.specs.Booleans.{asNumber}
-use Rattle.arith.proofs.Booleans.{both-sides, one-le}
+use Rattle.arith.proofs.Booleans.{both-sides}
 use Rattle.grid.specs.Layer.{Layer}
 use Rattle.grid.specs.Questions.{Sound}
-use Rattle.contour.specs.Walk.{Walk, Laws, occurrences, first, firsts}
+use Rattle.contour.specs.Walk.{Walk, Laws, occurrences}
 use Rattle.contour.specs.Contours.{walkOf, firstSticks, EachFirstOnce}
-use Rattle.contour.proofs.Orbit.{same-false, unlike}
+use Rattle.contour.proofs.Orbit.{unlike}
 use Rattle.contour.proofs.Members.{occurrences-append}
-use Rattle.contour.proofs.Contours.{Rising, firsts-rise, firsts-only, firsts-all}
+use Rattle.contour.proofs.Contours.{firsts-once}
 use Rattle.contour.proofs.Sticks.{laws}
 
 module _ (w : Walk) (law : Laws w) where
@@ -75,32 +73,6 @@ module _ (w : Walk) (law : Laws w) where
         (λ y. omega (arith, counts y, parts y, occurrences-append w y (p .before) (p .after))) (step s x) (keeps s x ok in-x)
         ∙ sym (ap (foldl step s) (p .whole)
         ∙ to-front x in-x (p .before) (p .after) (λ y o. h y (omega (arith, counts y, parts y))) s ok)
-
-  -- Each first element stands once in the list of them, and nothing else does
-
-  rise-none : (l : List A) (k : ℕ) (y : A) → Rising w k l → number y < k → occurrences w y l ≡ 0
-  unfolding occurrences
-  rise-none [] k y r h = refl
-  rise-none (x ∷ l) k y r h =
-      let other = same-false w law {x = y} {y = x} (λ e. omega (arith, r .0, ap number e)) in
-      omega (arith, ap asNumber other, rise-none l (number x + 1) y (r .1) (omega (arith, r .0)))
-
-  rise-once : (l : List A) (k : ℕ) (y : A) → Rising w k l → occurrences w y l ≤ 1
-  unfolding occurrences
-  rise-once [] k y r = omega arith
-  rise-once (x ∷ l) k y r =
-      both-sides (same y x)
-      (λ t. omega (arith, one-le (same y x), rise-none l (number x + 1) y (r .1) (omega (arith, ap number (law .same-eq y x t)))))
-      (λ u. omega (arith, ap asNumber u, rise-once l (number x + 1) y (r .1)))
-
-  pub firsts-once : (y : A) → occurrences w y (firsts w) ≡ asNumber (first w y)
-  firsts-once y =
-      both-sides (first w y)
-      (λ f. omega (arith, ap asNumber f, firsts-all w law y f, rise-once (firsts w) 0 y (firsts-rise w law)))
-      (λ n. elim (eq-zero-or-pos (occurrences w y (firsts w))) [
-        | inl z ↦ omega (arith, ap asNumber n)
-        | inr o ↦ absurd (true≢false (sym (firsts-only w law y o) ∙ n))
-      ])
 
 -- the order that the paper gives is such an order
 pub first-sticks-once : (L : Layer) → Sound L → EachFirstOnce L (firstSticks L)

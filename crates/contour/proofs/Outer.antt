@@ -1,14 +1,11 @@
 -- The first elements from a number on, ascending: one and those after it, the same where none is passed, none at the end; and a fold over
 -- lists as one over their elements.
-use mathlib.Core.Path.{_≡_, refl, sym, _∙_, ap}
+use mathlib.Core.Path.{_≡_, refl, sym, _∙_}
 use mathlib.Core.Bool.{true, false}
 use mathlib.Core.List.{List, [], _∷_, flatten, foldl, foldl-append}
-use Prim.Native.Nat.{ℕ, zero, suc, _+_, _-_, _≤_, _<_}
-use native.Mathlib.Nat.{add-zero}
-use native.Mathlib.Decide.{decLt}
-use native.Mathlib.Omega.{arith}
+use Prim.Native.Nat.{ℕ, _+_, _-_, _≤_, _<_}
 use Rattle.contour.specs.Walk.{Walk, first, firstsAmong, firstsFrom}
-use Rattle.contour.proofs.Contours.{among-none, among-first, among-other}
+use Rattle.contour.proofs.Numbered as Numbered
 
 -- a fold over lists, each folded, is the fold over them one after the other
 pub foldl-flatten : {A B : Type 0} (step : B → A → B) (t : B) (l : List (List A)) → foldl (foldl step) t l ≡ foldl step t (flatten l)
@@ -22,26 +19,13 @@ module _ (w : Walk) where
   -- The first elements from p on
 
   pub from-end : (p : ℕ) → many ≤ p → firstsFrom w p ≡ []
-  from-end p l = let e : many - p ≡ 0 = omega arith in ap (firstsAmong w p) e ∙ among-none w p
+  unfolding firstsAmong
+  from-end p l = Numbered.from-end w (first w) p l
 
   pub from-first : (p : ℕ) → p < many → first w (at p) ≡ true → firstsFrom w p ≡ at p ∷ firstsFrom w (p + 1)
-  from-first p l f =
-      let e : many - p ≡ suc (many - (p + 1)) = omega arith in
-      ap (firstsAmong w p) e ∙ among-first w p (many - (p + 1)) f
-
-  from-other : (p : ℕ) → first w (at p) ≡ false → firstsFrom w p ≡ firstsFrom w (p + 1)
-  from-other p f = go (decLt p many)
-    where
-      go : Dec (p < many) → firstsFrom w p ≡ firstsFrom w (p + 1)
-      go (yes l) =
-          let e : many - p ≡ suc (many - (p + 1)) = omega arith in
-          ap (firstsAmong w p) e ∙ among-other w p (many - (p + 1)) f
-      go (no l) = from-end p (omega arith) ∙ sym (from-end (p + 1) (omega arith))
+  unfolding firstsAmong
+  from-first p l f = Numbered.from-here w (first w) p l f
 
   pub from-skip : (d p : ℕ) → ((j : ℕ) → p ≤ j → j < p + d → first w (at j) ≡ false) → firstsFrom w p ≡ firstsFrom w (p + d)
-  from-skip zero p none = rw add-zero
-  from-skip (suc d) p none =
-      let e : p + 1 + d ≡ p + suc d = omega arith in
-      from-other p (none p (omega arith) (omega arith))
-      ∙ from-skip d (p + 1) (λ j h l. none j (omega arith) (omega arith))
-      ∙ ap (firstsFrom w) e
+  unfolding firstsAmong
+  from-skip d p none = Numbered.from-skip w (first w) d p none

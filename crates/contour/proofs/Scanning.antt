@@ -66,20 +66,20 @@ module _ {L : Layer} {t₀ : List ℕ} {f : Edge} where
 
 pub record ByteScanned (L : Layer) (at r : ℕ) (t : List ℕ) (x c : ℕ) : Type 0 where
   pub within : c ≤ 8 * at + 8
-  pub left : Left L at r c x
+  pub left : Left L false at r c x
   pub to : ScannedTo L r c t
 
 module _ {L : Layer} {at r : ℕ} {t : List ℕ} where
   pub byte-start : {x y : ℕ} → ScannedTo L r (8 * at) t → StickBits L false at r x → (y ≡ x) × (y < 256) → ByteScanned L at r t y (8 * at)
   byte-start {x} {y} to bits wide =
-      record { within = omega arith; left = rw (wide .0) (left-start L at r x bits (omega (arith, wide))); to = to }
+      record { within = omega arith; left = rw (wide .0) (left-start L false at r x bits (omega (arith, wide))); to = to }
 
   module _ {x c : ℕ} (b : ByteScanned L at r t x c) where
     module _ {z : ℕ} (lowest : (z ≡ least (bit x) 64) × (z < 64)) where
       found : (c + z < 8 * at + 8)
           × (isStick L (record { vertical = false; column = c + z; row = r }) ≡ true)
           × ((k : ℕ) → c ≤ k → k < c + z → isStick L (record { vertical = false; column = k; row = r }) ≡ false)
-      found = left-found L at r c x (b .left) z (lowest .0) (lowest .1)
+      found = left-found L false at r c x (b .left) z (lowest .0) (lowest .1)
 
       pub byte-room : c + z < 8 * at + 8
       byte-room = found .0
@@ -97,14 +97,14 @@ module _ {L : Layer} {at r : ℕ} {t : List ℕ} where
           let inner = stick-within L (s .sound) _ (found .1) .column-below in
           record {
             within = omega (arith, byte-room);
-            left = left-next L at r c x (b .left) z;
+            left = left-next L false at r c x (b .left) z;
             to = record { row-below = b .to .row-below; scanned = same-place (omega arith) s };
           }
 
     pub byte-last : x ≡ 0 → ScannedTo L r (8 * (at + 1)) t
     byte-last none =
         let end : 8 * at + 8 ≡ 8 * (at + 1) = omega arith in
-        rw end at (scan-skip (b .to) (8 * at + 8) (b .within) (left-done L at r c x (b .left) none))
+        rw end at (scan-skip (b .to) (8 * at + 8) (b .within) (left-done L false at r c x (b .left) none))
 
 -- From row to row
 

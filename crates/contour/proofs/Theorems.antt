@@ -20,8 +20,9 @@ use Rattle.grid.specs.declared.layer.Size.{Size}
 use Rattle.grid.specs.declared.edge.Edge.{Edge}
 use Rattle.grid.proofs.Numbers.{WithinGrid, within, in-kind-below}
 use Rattle.contour.specs.Walk.{occurrences, first, low, walked, ahead, Round}
-use Rattle.contour.specs.Contours.{walkOf, contourOf, firstSticks, contourCount, earlier}
+use Rattle.contour.specs.Contours.{walkOf, sticksOf, contourOf, firstSticks, contourCount, earlier}
 use Rattle.contour.proofs.Orbit.{round, contour-at}
+use Rattle.contour.proofs.Numbered.{all-once}
 use Rattle.contour.proofs.Members.{place, on-one, on-ahead, in-list}
 use Rattle.contour.proofs.First.{first-one, low-first, low-once, first-unique}
 use Rattle.contour.proofs.Contours.{count-walked, length-walked, length-contours, firsts-ascend, firsts-only, firsts-all}
@@ -100,6 +101,10 @@ module _ (L : Layer) (sound : Sound L) where
   -- so together they are as long as there are sticks.
   pub total-length : length (walked (walkOf L)) ≡ stickCount L
   total-length = length-walked (walkOf L) (laws L sound)
+
+  -- The sticks by number have each of them once, too.
+  pub sticks-once : (e : Edge) → occurrences (walkOf L) e (sticksOf L) ≡ asNumber (isStick L e)
+  sticks-once = all-once (walkOf L) (laws L sound) (isStick L) (λ e stick. stick)
 
   -- Every contour has a horizontal stick, so first sticks are horizontal.
   pub has-horizontal : (f : Edge) → isStick L f ≡ true → (h : Edge) × (0 < occurrences (walkOf L) h (contourOf L f)) × (h .vertical ≡ false)

@@ -75,11 +75,19 @@ module _ (w : Walk) where
   unfolding low
   seen p y = isOne y && ltb (low y) p
 
+  -- the elements that pass a test among the n numbers from k on, ascending
+  unfoldable pub numbered : (A → Bool) → ℕ → ℕ → List A
+  numbered test k zero = []
+  numbered test k (suc n) = consIf (test (at k)) (at k) (numbered test (k + 1) n)
+
+  -- all that count, ascending
+  abbrev pub ones : List A
+  ones = numbered isOne 0 many
+
   -- the first elements among the n numbers from k on, ascending
   unfoldable pub firstsAmong : ℕ → ℕ → List A
-  unfolding first
-  firstsAmong k zero = []
-  firstsAmong k (suc n) = consIf (first (at k)) (at k) (firstsAmong (k + 1) n)
+  unfolding first numbered
+  firstsAmong k n = numbered first k n
 
   -- the first elements with numbers from p on
   abbrev pub firstsFrom : ℕ → List A

@@ -76,7 +76,7 @@ module _ {L : Layer} {s : List ℕ} (bores : BoreSet L s) {r c n : ℕ} (here : 
 -- Along the sticks of byte `at`: x has the bits of the columns from c on
 
 pub record ByteSwept (L : Layer) (at r end x c n : ℕ) : Type 0 where
-  pub left : Left L at r c x
+  pub left : Left L false at r c x
   pub in-byte : c ≤ 8 * at + 8
   pub reach : c ≤ end
   pub counted : n ≡ contoursAround L c r
@@ -94,8 +94,8 @@ module _ {L : Layer} {r end : ℕ} where
   byte-start {c} {n} {x} {y} swept bits wide =
       record {
         left =
-            subst (λ (k : ℕ). Left L (c / 8) r k (y / 2 ^ (c % 8))) (byte-of c)
-            (rw (wide .0) (left-shift L (c / 8) r (8 * (c / 8)) x (left-start L (c / 8) r x bits (omega (arith, wide))) (c % 8)));
+            subst (λ (k : ℕ). Left L false (c / 8) r k (y / 2 ^ (c % 8))) (byte-of c)
+            (rw (wide .0) (left-shift L false (c / 8) r (8 * (c / 8)) x (left-start L false (c / 8) r x bits (omega (arith, wide))) (c % 8)));
         in-byte = omega (arith, byte-of c);
         reach = swept .reach;
         counted = swept .counted;
@@ -105,7 +105,7 @@ module _ {L : Layer} {r end : ℕ} where
     found : (c + z < 8 * at + 8)
         × (isStick L (east (c + z) r) ≡ true)
         × ((k : ℕ) → c ≤ k → k < c + z → isStick L (east k r) ≡ false)
-    found = left-found L at r c x (b .left) z (lowest .0) (lowest .1)
+    found = left-found L false at r c x (b .left) z (lowest .0) (lowest .1)
 
     pub byte-room : c + z < 8 * at + 8
     byte-room = found .0
@@ -133,7 +133,7 @@ module _ {L : Layer} {r end : ℕ} where
     byte-turn less counted =
         let e : c + z + 1 ≡ c + (z + 1) = omega arith in
         record {
-          left = left-next L at r c x (b .left) z;
+          left = left-next L false at r c x (b .left) z;
           in-byte = omega (arith, byte-room);
           reach = omega arith;
           counted = counted ∙ ap (λ (k : ℕ). contoursAround L k r) e;
@@ -142,7 +142,7 @@ module _ {L : Layer} {r end : ℕ} where
   pub byte-last : {at x c n : ℕ} → ByteSwept L at r end x c n → Sound L → x ≡ 0 → n ≡ contoursAround L (min (8 * at + 8) end) r
   byte-last {at} {x} {c} b sound none =
       b .counted
-      ∙ sym (none-between sound r (omega (arith, b .reach, b .in-byte)) (λ k a h. left-done L at r c x (b .left) none k a (omega arith)))
+      ∙ sym (none-between sound r (omega (arith, b .reach, b .in-byte)) (λ k a h. left-done L false at r c x (b .left) none k a (omega arith)))
 
 -- Along the row, from byte to byte
 

@@ -11,8 +11,7 @@ use Rattle.arith.specs.Lists.{each, among}
 use Rattle.arith.proofs.Booleans.{both-sides}
 use Rattle.contour.specs.Walk.{Walk, Laws, occurrences, first, firstsAmong, firsts}
 use Rattle.contour.proofs.Orbit.{unlike}
-use Rattle.contour.proofs.Contours.{among-none, among-first, among-other}
-use Rattle.contour.proofs.Orders.{firsts-once}
+use Rattle.contour.proofs.Contours.{among-none, among-first, among-other, firsts-once}
 
 at-most : (a b : Bool) → (a ≡ true → b ≡ true) → asNumber a ≤ asNumber b
 at-most true b h = omega (arith, ap asNumber (h refl))
