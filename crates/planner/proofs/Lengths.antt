@@ -19,13 +19,14 @@ use Rattle.contour.specs.Contours.{walkOf, contourOf, firstSticks, contourCount
 use Rattle.contour.proofs.Theorems.{contour-count}
 use Rattle.winding.specs.Turns.{depth}
 use Rattle.drawn.specs.Drawn.{drawnOf, drawnEdges}
+use Rattle.table.specs.Kept.{keptEntry}
 use Rattle.drawn.proofs.DrawnEdges.{drawn-many}
 use Rattle.held.specs.Questions.{Accepted}
 use Rattle.item.specs.Items.{byteOf, bytesOf, floatsIn, floatsOf}
 use Rattle.item.specs.declared.item.Item.{Item}
 use Rattle.polyline.specs.Items.{contourItems, contourBytes, contourFloats}
 use Rattle.planner.specs.Items.{itemsOf, listOrder, listedItems}
-use Rattle.planner.specs.Writing.{depths, most, keptEntry}
+use Rattle.planner.specs.Writing.{depths, most}
 use Rattle.polyline.proofs.Lengths.{contour-bytes, contour-floats}
 use Rattle.planner.proofs.Order.{order-total, order-depths}
 

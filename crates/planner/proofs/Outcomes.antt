@@ -1,6 +1,5 @@
 -- Question 14 and the outcome of the call: how the lengths decide, and what is left in the outputs.
-use mathlib.Core.Path.{_≡_, refl, sym, ap, _∙_}
-use mathlib.Core.Bool.{Bool, true, false, _&&_}
+use mathlib.Core.Path.{_≡_, sym, ap, _∙_}
 use mathlib.Core.List.{List, [], _∷_}
 use Prim.Native.Nat.{ℕ, _+_, _*_, _≤_, _<_}
 use native.Mathlib.Omega.{arith}
@@ -10,6 +9,7 @@ use lib.Ieee.{Float}
 use lib.ListN.{length, length-map}
 use lib.Seq.{sets}
 use Rattle.arith.specs.Ranges.{count}
+use Rattle.arith.proofs.Booleans.{and-short}
 use Rattle.arith.proofs.Ranges.{count-le}
 use Rattle.grid.specs.Layer.{Layer}
 use Rattle.grid.specs.Questions.{firstNo, ask}
@@ -21,18 +21,15 @@ use Rattle.grid.proofs.Answers.{first-only, append-no, append-yes}
 use Rattle.grid.proofs.Numbers.{edges-small}
 use Rattle.contour.specs.Contours.{contourCount}
 use Rattle.bitset.specs.Sets.{setBits}
+use Rattle.table.specs.Kept.{keptEntry}
 use Rattle.held.specs.Questions.{heldQuestions, Accepted}
 use Rattle.item.specs.Items.{byteOf, bytesOf, floatsOf}
 use Rattle.item.specs.Writing.{buffersOf, atStart, Room}
 use Rattle.planner.specs.Items.{listedItems}
 use Rattle.planner.specs.Plan.{Outcome, outcome, roomAnswer, answered, planOf}
-use Rattle.planner.specs.Writing.{keptEntry, acceptedOf}
+use Rattle.planner.specs.Writing.{acceptedOf}
 use Rattle.planner.specs.declared.planning.Planned.the-variants.{Done, Refused}
 use Rattle.planner.proofs.Lengths.{bytes-all, floats-all}
-
-and-short : (a b : Bool) → b ≡ false → (a && b) ≡ false
-and-short true b e = e
-and-short false b e = refl
 
 -- By an answer
 

@@ -6,36 +6,18 @@ use contour::contours_in;
 use grid::Answer;
 use grid::Refusal;
 use grid::Size;
-use table::entry_of;
-use table::is_kept;
+use table::count_kept;
 ghost use mathlib.Core.Path.{_≡_};
-ghost use lib.ListN.{length};
-ghost use Rattle.arith.specs.Ranges.{count};
 ghost use Rattle.grid.specs.Layer.{layerOf, sizeOf};
 ghost use Rattle.contour.specs.Sets.{FirstSet};
 ghost use Rattle.held.specs.Questions.{Accepted};
 ghost use Rattle.planner.specs.Plan.{outcome, planOf};
-ghost use Rattle.planner.specs.Writing.{keptEntry, acceptedOf};
+ghost use Rattle.planner.specs.Writing.{acceptedOf};
 
 // The call's answer: how many items and floats were written, or refused with the question and its place.
 pub enum Planned {
     Done { items: usize, floats: usize },
     Refused(Refusal, usize),
-}
-
-// How many entries have a kept vertex.
-fn count_kept(table: &[u16]) -> usize
-    ensures { λ r. ⌜ r ≡ count (keptEntry (now (table .entry))) (length (now (table .entry))) ⌝ }
-{
-    let mut kept: usize = 0;
-    let mut n = 0;
-    while n < table.len() {
-        if is_kept(entry_of(table[n])) {
-            kept += 1;
-        }
-        n += 1;
-    }
-    kept
 }
 
 // Question 14, and the list, of a layer that passed 1 to 7.

@@ -1,4 +1,4 @@
--- Question 15, by the entries alone: it is put after question 6 was answered yes, so each stick's entry is
+-- Kept vertices and question 15, by the entries alone: it is put after question 6 was answered yes, so each stick's entry is
 -- that of a kept vertex, pinned or not, or of a removed one.
 use mathlib.Core.Bool.{Bool}
 use mathlib.Core.List.{List}
@@ -10,7 +10,11 @@ use Rattle.grid.specs.declared.layer.Size.{Size}
 use Rattle.grid.specs.declared.question.Refusal.the-variants as Refusal
 use Rattle.grid.specs.declared.question.Answer.{Answer}
 use Rattle.table.specs.Entries.{entryOf}
-use Rattle.table.specs.Vertices.{isRemoved}
+use Rattle.table.specs.Vertices.{isKept, isRemoved}
+
+-- whether entry k of a table has a kept vertex
+abbrev pub keptEntry : List ℕ → ℕ → Bool
+keptEntry t k = isKept (entryOf (getD t k 0))
 
 -- "15. For Smooth and Simplify: is every vertex kept? (lowest removed entry)"
 abbrev pub isRemovedAt : List ℕ → ℕ → Bool

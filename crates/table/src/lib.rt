@@ -1,8 +1,10 @@
-// The hold table: an entry taken apart and stored, and questions 5, 6 and 15.
+// The hold table: an entry taken apart and stored, questions 5, 6 and 15, and how many vertices are kept.
+mod count;
 mod entry;
 mod question;
 mod vertex;
 
+pub use count::count_kept;
 pub use entry::Entry;
 pub use entry::encoded_of;
 pub use entry::entry_of;

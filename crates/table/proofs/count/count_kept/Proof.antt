@@ -9,10 +9,10 @@ use Rattle.arith.specs.Booleans.{asNumber}
 use Rattle.arith.specs.Ranges.{count}
 use Rattle.arith.proofs.Ranges.{count-zero, count-le}
 use Rattle.arith.proofs.Finite.{count-more}
 use Rattle.table.specs.Vertices.{isKept}
-use Rattle.planner.specs.Writing.{keptEntry}
-use Rattle.planner.proofs.planning.count_kept.Statement.{statement}
-use Rattle.planner.proofs.planning.count_kept.Tie as tie
+use Rattle.table.specs.Kept.{keptEntry}
+use Rattle.table.proofs.count.count_kept.Statement.{statement}
+use Rattle.table.proofs.count.count_kept.Tie as tie
 
 abbrev Inv-loop : tie.InvT-loop
 Inv-loop table kept₀ n₀ kept n = (n ≤ length table) × (kept ≡ count (keptEntry table) n)
