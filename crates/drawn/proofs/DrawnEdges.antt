@@ -1,7 +1,7 @@
 -- The drawn edges of contours as lists. Those of one contour start at its kept vertices, each at one, and each begins where the one before
 -- ended, back to the first. Those of all contours start at all kept vertices of sticks, each at one, and are as many as the kept entries.
 use mathlib.Core.Path.{_≡_, refl, sym, ap, _∙_}
-use mathlib.Core.Bool.{Bool, true, cond}
+use mathlib.Core.Bool.{true, cond}
 use mathlib.Core.List.{List, [], _∷_, _++_, map, flatten}
 use Prim.Native.Nat.{ℕ, zero, suc, _*_, _<_}
 use native.Mathlib.Omega.{arith}
@@ -20,15 +20,16 @@ use Rattle.grid.proofs.Numbers.{edgeAt-within}
 use Rattle.step.specs.Walk.{next}
 use Rattle.step.proofs.Walks.{next-stick}
 use Rattle.contour.specs.Walk.{occurrences, OnContour, ahead, walked}
-use Rattle.contour.specs.Contours.{walkOf, contourOf, firstSticks, sameEdge}
+use Rattle.contour.specs.Contours.{walkOf, sticksOf, contourOf, firstSticks, sameEdge}
 use Rattle.contour.proofs.Orbit.{run, round, contour-run}
 use Rattle.contour.proofs.Members.{once, on-one, on-next, on-self, on-swap, on-trans, length-counts}
 use Rattle.contour.proofs.Sticks.{laws, same-edge}
-use Rattle.contour.proofs.Theorems.{permutation}
+use Rattle.contour.proofs.Theorems.{permutation, sticks-once}
 use Rattle.table.specs.Entries.{entryOf, entriesAnswer}
+use Rattle.table.specs.Kept.{keptEntry}
 use Rattle.table.specs.Vertices.{isKept, keptAt, removedAt}
 use Rattle.drawn.specs.Neighbours.{nextKept}
-use Rattle.drawn.specs.Drawn.{Drawn, Ends, drawnFrom, drawnAmong, drawnOf, drawnAlong, drawnEdges, starts, Leads}
+use Rattle.drawn.specs.Drawn.{Drawn, Ends, drawnFrom, drawnAmong, drawnOf, drawnAlong, drawnEdges, drawnByNumber, starts, Leads}
 use Rattle.drawn.proofs.Gaps.{not-both}
 use Rattle.drawn.proofs.Vertices.{Vertices, no-vertices-of, kept-of, next-over, next-here}
 
@@ -125,36 +126,52 @@ module _ (L : Layer) (t : List ℕ) (sound : Sound L) (f : Edge) (stick : isStic
         let whole = leads (length (contourOf L f)) f (on-self (walkOf L) law f stick) in
         rw (sym (contour-run (walkOf L) law f stick), round (walkOf L) law f stick .back) at whole
 
--- Of all contours
+-- Of all sticks, in any order that has each once
 module _ (L : Layer) (t : List ℕ) (sound : Sound L) where
-  -- they start at all kept vertices of sticks, each at one,
+  module _ (sticks : List Edge) (each-once : (e : Edge) → occurrences (walkOf L) e sticks ≡ asNumber (isStick L e)) where
+    -- they start at all kept vertices of sticks, each at one,
+    starts-of-all : (e : Edge) → occurrences (walkOf L) e (starts (drawnAmong L t sticks)) ≡ asNumber (keptAt L t e) * asNumber (isStick L e)
+    starts-of-all e = start-counts L t e sticks ∙ ap (λ (n : ℕ). asNumber (keptAt L t e) * n) (each-once e)
+
+    -- and where each entry suits its edge they are as many as the table has kept entries.
+    module _ (yes-6 : entriesAnswer L t ≡ Yes) where
+      kept-entry : (k : ℕ) → k < edgeCount (L .size)
+          → asNumber (keptAt L t (edgeAt (L .size) k)) * asNumber (isStick L (edgeAt (L .size) k)) ≡ asNumber (keptEntry t k)
+      unfolding keptAt
+      kept-entry k h =
+          let w = edgeAt-within (L .size) (sound .whole .sized) k h in
+          let same : keptAt L t (edgeAt (L .size) k) ≡ keptEntry t k = ap (λ (n : ℕ). isKept (entryOf (getD t n 0))) (w .1) in
+          both-sides (isStick L (edgeAt (L .size) k))
+          (λ o. rw o (omega (arith, ap asNumber same)))
+          (λ o. rw o (omega (arith, ap asNumber (sym same ∙ ap isKept (no-vertices-of L t sound yes-6 (edgeAt (L .size) k) (w .0) o)))))
+
+      all-ones : (e : Edge) → 0 < occurrences (walkOf L) e (starts (drawnAmong L t sticks)) → isStick L e ≡ true
+      all-ones e h = both-sides (isStick L e) (λ o. o) (λ o. absurd (omega (arith, rw o at (starts-of-all e))))
+
+      many-of-all : length (drawnAmong L t sticks) ≡ count (keptEntry t) (edgeCount (L .size))
+      many-of-all =
+          let drawn = drawnAmong L t sticks in
+          sym (length-map drawn (λ d. d .from))
+          ∙ sym (length-counts (walkOf L) (laws L sound) (starts drawn) all-ones)
+          ∙ sum-same (λ k. occurrences (walkOf L) (edgeAt (L .size) k) (starts drawn)) (λ k. asNumber (keptEntry t k)) (edgeCount (L .size))
+          (λ k h. starts-of-all (edgeAt (L .size) k) ∙ kept-entry k h)
+          ∙ sym (count-sum (keptEntry t) (edgeCount (L .size)))
+
+  -- contour by contour
   pub all-starts : (e : Edge) → occurrences (walkOf L) e (starts (drawnEdges L t)) ≡ asNumber (keptAt L t e) * asNumber (isStick L e)
   all-starts e =
       ap (λ (l : List Ends). occurrences (walkOf L) e (starts l)) (drawn-along L t (firstSticks L))
-      ∙ start-counts L t e (walked (walkOf L))
-      ∙ ap (λ (n : ℕ). asNumber (keptAt L t e) * n) (permutation L sound e)
+      ∙ starts-of-all (walked (walkOf L)) (permutation L sound) e
 
-  -- and where each entry suits its edge they are as many as the table has kept entries.
-  module _ (yes-6 : entriesAnswer L t ≡ Yes) where
-    kept-entry : (k : ℕ) → k < edgeCount (L .size)
-        → asNumber (keptAt L t (edgeAt (L .size) k)) * asNumber (isStick L (edgeAt (L .size) k)) ≡ asNumber (isKept (entryOf (getD t k 0)))
-    unfolding keptAt
-    kept-entry k h =
-        let w = edgeAt-within (L .size) (sound .whole .sized) k h in
-        let same : keptAt L t (edgeAt (L .size) k) ≡ isKept (entryOf (getD t k 0)) = ap (λ (n : ℕ). isKept (entryOf (getD t n 0))) (w .1) in
-        both-sides (isStick L (edgeAt (L .size) k))
-        (λ o. rw o (omega (arith, ap asNumber same)))
-        (λ o. rw o (omega (arith, ap asNumber (sym same ∙ ap isKept (no-vertices-of L t sound yes-6 (edgeAt (L .size) k) (w .0) o)))))
+  pub drawn-many : entriesAnswer L t ≡ Yes → length (drawnEdges L t) ≡ count (keptEntry t) (edgeCount (L .size))
+  drawn-many yes-6 = ap length (drawn-along L t (firstSticks L)) ∙ many-of-all (walked (walkOf L)) (permutation L sound) yes-6
 
-    all-ones : (e : Edge) → 0 < occurrences (walkOf L) e (starts (drawnEdges L t)) → isStick L e ≡ true
-    all-ones e h = both-sides (isStick L e) (λ o. o) (λ o. absurd (omega (arith, rw o at (all-starts e))))
+  -- by number: the same edges, as many
+  pub number-starts : (e : Edge) → occurrences (walkOf L) e (starts (drawnByNumber L t)) ≡ asNumber (keptAt L t e) * asNumber (isStick L e)
+  number-starts = starts-of-all (sticksOf L) (sticks-once L sound)
 
-    pub drawn-many : length (drawnEdges L t) ≡ count (λ k. isKept (entryOf (getD t k 0))) (edgeCount (L .size))
-    drawn-many =
-        let all = starts (drawnEdges L t) in
-        let kept : ℕ → Bool = λ k. isKept (entryOf (getD t k 0)) in
-        sym (length-map (drawnEdges L t) (λ d. d .from))
-        ∙ sym (length-counts (walkOf L) (laws L sound) all all-ones)
-        ∙ sum-same (λ k. occurrences (walkOf L) (edgeAt (L .size) k) all) (λ k. asNumber (kept k)) (edgeCount (L .size))
-        (λ k h. all-starts (edgeAt (L .size) k) ∙ kept-entry k h)
-        ∙ sym (count-sum kept (edgeCount (L .size)))
+  pub same-starts : (e : Edge) → occurrences (walkOf L) e (starts (drawnByNumber L t)) ≡ occurrences (walkOf L) e (starts (drawnEdges L t))
+  same-starts e = number-starts e ∙ sym (all-starts e)
+
+  pub number-many : entriesAnswer L t ≡ Yes → length (drawnByNumber L t) ≡ count (keptEntry t) (edgeCount (L .size))
+  number-many = many-of-all (sticksOf L) (sticks-once L sound)
