@@ -8,8 +8,9 @@ use lib.IntN.{pos, negsuc}
 use Rattle.arith.specs.Ranges.{leastFrom}
 use Rattle.grid.specs.Layer.{Layer, layerOf, sizeOf, sample, bit}
 use Rattle.grid.specs.Edges.{number, edgeCount, edgeAt, isStick}
-use Rattle.grid.specs.Questions.{sidesAnswer, lengthAnswer, spareAnswer, borderAnswer}
+use Rattle.grid.specs.Questions.{firstNo, sidesAnswer, lengthAnswer, spareAnswer, borderAnswer}
 use Rattle.grid.specs.declared.question.Refusal.the-variants.{ShortOutput}
+use Rattle.grid.specs.declared.question.Answer.the-variants.{Yes}
 use Rattle.step.specs.Walk.{next, prev}
 use Rattle.contour.specs.Walk.{firstsAmong}
 use Rattle.chord.specs.Crossing.{off, parted, crosses}
@@ -18,6 +19,8 @@ use Rattle.table.specs.Vertices.{keptAt, removedAt, offsetAt}
 use Rattle.drawn.specs.Neighbours.{removedFrom, keptFrom}
 use Rattle.drawn.specs.Drawn.{edgeCrosses}
 use Rattle.held.specs.Held.{heldContour, heldAnswer}
+use Rattle.held.specs.Questions.{heldQuestions}
+use Rattle.shoelace.specs.Sums.{totalOf}
 use Rattle.area.specs.Areas.{twiceArea, areasOf}
 use Rattle.area.specs.Call.{outcome, measureOf}
 use Rattle.area.specs.declared.measure.Measured.the-variants.{Done, Refused}
@@ -29,16 +32,26 @@ single = layerOf (sizeOf 3 3) (0 ∷ 2 ∷ 0 ∷ [])
 abbrev traced : List ℕ
 traced = 0 ∷ 0 ∷ 128 ∷ 128 ∷ 0 ∷ 0 ∷ 0 ∷ 128 ∷ 0 ∷ 0 ∷ 128 ∷ 0 ∷ []
 
-pub single-area : measureOf single traced (pos 7 ∷ pos 7 ∷ []) ≡ outcome (Done 1 (pos 65536)) (pos 65536 ∷ pos 7 ∷ [])
-unfolding measureOf twiceArea sidesAnswer lengthAnswer spareAnswer borderAnswer tableLengthAnswer entriesAnswer heldAnswer heldContour edgeCrosses
+-- Its drawn edges start, by number, at sticks 2 and 3 on the row through the sample, 7 below and 10 above, with vertices at (128, 256), (384, 256), (256, 128)
+-- and (256, 384), and go from 2 to 7 to 3 to 10 to 2. They add 128 · 128 − 256 · 256 = −49,152, 384 · 384 − 256 · 256 = 81,920, 256 · 256 − 384 · 128 = 16,384
+-- and 256 · 256 − 128 · 384 = 16,384.
+pub single-area : measureOf single traced (pos 7 ∷ pos 7 ∷ []) (pos 7 ∷ pos 7 ∷ pos 7 ∷ pos 7 ∷ pos 7 ∷ [])
+    ≡ outcome (Done 1 4 (pos 65536)) (pos 65536 ∷ pos 7 ∷ []) (negsuc 49151 ∷ pos 32768 ∷ pos 49152 ∷ pos 65536 ∷ pos 7 ∷ [])
+unfolding measureOf totalOf twiceArea sidesAnswer lengthAnswer spareAnswer borderAnswer tableLengthAnswer entriesAnswer heldAnswer heldContour edgeCrosses
     firstsAmong number edgeCount edgeAt isStick sample bit next prev xor leastFrom keptAt removedAt offsetAt removedFrom keptFrom entryOf
 single-area = refl
 
--- no room for its number: 14, and nothing is written
-pub single-short : measureOf single traced [] ≡ outcome (Refused ShortOutput 0) []
-unfolding measureOf twiceArea sidesAnswer lengthAnswer spareAnswer borderAnswer tableLengthAnswer entriesAnswer heldAnswer heldContour edgeCrosses
+-- no room for its number, or for the sum after its last edge: 14, and nothing is written
+pub no-room-for-areas : measureOf single traced [] (pos 7 ∷ pos 7 ∷ pos 7 ∷ pos 7 ∷ [])
+    ≡ outcome (Refused ShortOutput 0) [] (pos 7 ∷ pos 7 ∷ pos 7 ∷ pos 7 ∷ [])
+unfolding measureOf totalOf twiceArea sidesAnswer lengthAnswer spareAnswer borderAnswer tableLengthAnswer entriesAnswer heldAnswer heldContour edgeCrosses
     firstsAmong number edgeCount edgeAt isStick sample bit next prev xor leastFrom keptAt removedAt offsetAt removedFrom keptFrom entryOf
-single-short = refl
+no-room-for-areas = refl
+
+pub no-room-for-sums : measureOf single traced (pos 7 ∷ []) (pos 7 ∷ pos 7 ∷ pos 7 ∷ []) ≡ outcome (Refused ShortOutput 0) (pos 7 ∷ []) (pos 7 ∷ pos 7 ∷ pos 7 ∷ [])
+unfolding measureOf totalOf twiceArea sidesAnswer lengthAnswer spareAnswer borderAnswer tableLengthAnswer entriesAnswer heldAnswer heldContour edgeCrosses
+    firstsAmong number edgeCount edgeAt isStick sample bit next prev xor leastFrom keptAt removedAt offsetAt removedFrom keptFrom entryOf
+no-room-for-sums = refl
 
 -- Four samples in a square: four square pitches, less an eighth at each corner. With the vertex of the first stick removed it is less by the triangle
 -- there, of 128 and 256 in 1/256 of the pitch.
@@ -49,11 +62,14 @@ abbrev without-first : List ℕ
 without-first =
     0 ∷ 0 ∷ 0 ∷ 384 ∷ 0 ∷ 128 ∷ 128 ∷ 0 ∷ 128 ∷ 0 ∷ 0 ∷ 0 ∷ 0 ∷ 128 ∷ 128 ∷ 0 ∷ 0 ∷ 0 ∷ 0 ∷ 0 ∷ 0 ∷ 128 ∷ 128 ∷ 0 ∷ []
 
-pub block-area : measureOf block without-first (pos 0 ∷ []) ≡ outcome (Done 1 (pos 425984)) (pos 425984 ∷ [])
-unfolding measureOf twiceArea sidesAnswer lengthAnswer spareAnswer borderAnswer tableLengthAnswer entriesAnswer heldAnswer heldContour edgeCrosses
-    firstsAmong number edgeCount edgeAt isStick sample bit next prev xor leastFrom keptAt removedAt offsetAt removedFrom keptFrom entryOf
-    crosses parted off
+pub block-area : totalOf block without-first ≡ pos 425984
+unfolding totalOf firstsAmong number edgeCount edgeAt isStick sample bit next prev xor leastFrom keptAt removedAt offsetAt removedFrom keptFrom entryOf
 block-area = refl
+
+pub block-held : firstNo (heldQuestions block without-first) ≡ Yes
+unfolding sidesAnswer lengthAnswer spareAnswer borderAnswer tableLengthAnswer entriesAnswer heldAnswer heldContour edgeCrosses
+    firstsAmong number edgeCount edgeAt isStick sample bit next prev xor leastFrom keptAt removedAt offsetAt removedFrom keptFrom entryOf crosses parted off
+block-held = refl
 
 -- Eight samples around one that is outside, as traced: nine square pitches less half of one, and a bore of half a square pitch.
 abbrev ring : Layer

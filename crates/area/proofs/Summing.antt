@@ -28,8 +28,9 @@ use Rattle.drawn.proofs.Vertices.{vertices-of}
 use Rattle.drawn.proofs.DrawnEdges.{keptFromHere, nextKept-from}
 use Rattle.held.proofs.HeldFacts.{held-of}
 use Rattle.area.specs.declared.walk.Trail.{Trail}
-use Rattle.area.specs.Areas.{cross, edgeAdds, sumOf, twiceArea}
-use Rattle.area.specs.Measuring.{origin, noTrail, trailTo, Measurable, AreaFound}
+use Rattle.shoelace.specs.Adds.{cross, edgeAdds, Measurable}
+use Rattle.area.specs.Areas.{sumOf, twiceArea}
+use Rattle.area.specs.Measuring.{origin, noTrail, trailTo, AreaFound}
 
 -- what the drawn edges add that start among some sticks
 abbrev pub sumAmong : Layer → List ℕ → List Edge → ℤ
@@ -220,3 +221,13 @@ module _ {L : Layer} {t : List ℕ} {f : Edge} (given : Measurable L t f) where
           is = is ∙ ap (λ (y : ℤ). area +ℤ y) z-is ∙ done .whole;
           most = omega (arith, ap natAbs is, natAbs-add area z, done .bounded, small, some);
         }
+
+-- the number of one contour
+pub area-small : {L : Layer} {t : List ℕ} {f : Edge} {area : ℤ} → Measurable L t f → AreaFound L t f area → natAbs area ≤ 2 ^ 59
+area-small {L} {t} {f} given found =
+    omega (
+      arith,
+      found .most,
+      round (walkOf L) (laws L (given .accepted .sound)) f (given .stick) .within,
+      edges-small (L .size) (given .accepted .sound .whole .sized),
+    )

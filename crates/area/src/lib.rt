@@ -1,4 +1,4 @@
-// Twice the signed area of each contour: the call.
+// Twice the signed area of each contour, and the area of the layer growing from stick to stick: the call.
 mod contours;
 mod measure;
 mod walk;

@@ -1,30 +1,17 @@
 // Twice the signed area of one contour, by one walk over it.
 use chord::Position;
-use chord::signed;
 use contour::same_edge;
 use drawn::vertex_at;
 use grid::Edge;
 use grid::Size;
+use shoelace::cross_of;
 use step::next_stick;
 use table::entry_at;
 use table::is_kept;
 ghost use mathlib.Core.Path.{_≡_};
-ghost use Prim.Native.Nat.{_^_, _≤_};
-ghost use lib.IntN.{natAbs};
 ghost use Rattle.grid.specs.Layer.{layerOf};
-ghost use Rattle.chord.specs.Runs.{Near};
-ghost use Rattle.area.specs.Areas.{cross};
-ghost use Rattle.area.specs.Measuring.{trailTo, Measurable, AreaFound};
-
-// What a drawn edge from p to q adds.
-fn cross_of(p: Position, q: Position) -> i64
-    requires { ⌜ Near p ⌝ }
-    requires { ⌜ Near q ⌝ }
-    ensures { λ r. ⌜ r ≡ cross p q ⌝ }
-    ensures { λ r. ⌜ natAbs r ≤ 2 ^ 37 ⌝ }
-{
-    signed(p.x) * signed(q.y) - signed(q.x) * signed(p.y)
-}
+ghost use Rattle.shoelace.specs.Adds.{Measurable};
+ghost use Rattle.area.specs.Measuring.{trailTo, AreaFound};
 
 // The first and the last kept vertex that a walk has passed. Before there is one, both are the origin, from where an edge adds nothing.
 pub struct Trail {

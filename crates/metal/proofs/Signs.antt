@@ -27,7 +27,8 @@ use Rattle.winding.proofs.Contours.{on-self, on-stick}
 use Rattle.winding.proofs.Values.{inside-value, outside-value}
 use Rattle.polygon.specs.Polygon.{added, taken, enclosed, Encloses}
 use Rattle.polygon.proofs.Enclosed.{encloses}
-use Rattle.area.specs.Areas.{edgeAdds, sumOf, twiceArea}
+use Rattle.shoelace.specs.Adds.{edgeAdds}
+use Rattle.area.specs.Areas.{sumOf, twiceArea}
 use Rattle.metal.specs.Metal.{Outline, Bore}
 use Rattle.metal.proofs.Fractions.{addedAlong, takenAlong, scaled}
 

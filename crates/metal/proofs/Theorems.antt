@@ -3,15 +3,17 @@ use mathlib.Core.Path.{_≡_, refl, sym, ap, subst, _∙_}
 use mathlib.Core.List.{List}
 use Prim.Native.Nat.{ℕ, _≤_}
 use native.Mathlib.Omega.{arith}
-use lib.IntN.{ℤ}
+use lib.IntN.{ℤ, pos}
 use lib.ListN.{length, take}
 use lib.Seq.{sets, sets-eq, take-append-seam}
 use Rattle.grid.specs.Layer.{Layer}
 use Rattle.held.specs.Questions.{Accepted}
 use Rattle.held.proofs.Asking.{accepted-of}
+use Rattle.shoelace.specs.Sums.{sumsOf, lastOf, totalOf}
 use Rattle.area.specs.Areas.{sumOf, areasOf}
 use Rattle.area.specs.Call.{measureOf}
-use Rattle.area.proofs.Answered.{as-many, measured-done, measured-yes}
+use Rattle.area.proofs.Answered.{as-many, sums-many, measured-done, measured-yes}
+use Rattle.area.proofs.Totals.{total-same}
 use Rattle.metal.specs.Metal.{Metal, AreasAnswered}
 use Rattle.metal.proofs.Signs.{one-or-other, never-both, outline-only, bore-only, outline-above, bore-below, outline-near, bore-near}
 use Rattle.metal.proofs.Totals.{total-near, total-above}
@@ -25,6 +27,7 @@ metal L t accepted =
       bore-only = λ f h. bore-only (accepted .sound) f h;
       outline-above = λ f h. outline-above accepted f h;
       bore-below = λ f h. bore-below accepted f h;
+      total-same = total-same L t (accepted .sound);
       total-above = total-above accepted;
       outline-near = λ f h. outline-near accepted f h;
       bore-near = λ f h. bore-near accepted f h;
@@ -35,10 +38,22 @@ metal L t accepted =
 stored-first : (l out : List ℤ) → length l ≤ length out → take (length l) (sets out 0 l) ≡ l
 stored-first l out h = ap (take (length l)) (sets-eq l out 0 (omega arith)) ∙ take-append-seam l _
 
-pub areas-answered : (L : Layer) (t : List ℕ) (out : List ℤ) → measureOf L t out .refusal ≡ 0 → AreasAnswered L t (measureOf L t out)
-areas-answered L t out done =
-    let yes = measured-yes L t out done in
+pub areas-answered : (L : Layer) (t : List ℕ) (areas sums : List ℤ) → measureOf L t areas sums .refusal ≡ 0 → AreasAnswered L t (measureOf L t areas sums)
+unfolding totalOf
+areas-answered L t areas sums done =
+    let yes = measured-yes L t areas sums done in
+    let accepted = accepted-of L t (yes .held) in
     let many = as-many L t in
-    let stands = ap (λ (n : ℕ). take n (sets out 0 (areasOf L t))) many ∙ stored-first (areasOf L t) out (omega (arith, many, yes .1)) in
-    subst (AreasAnswered L t) (sym (measured-done L t out (yes .0) (yes .1)))
-    (record { contours = refl; areas = stands; total = ap sumOf (sym stands); metal = metal L t (accepted-of L t (yes .0)) })
+    let stands = ap (λ (n : ℕ). take n (sets areas 0 (areasOf L t))) many ∙ stored-first (areasOf L t) areas (omega (arith, many, yes .room-areas)) in
+    let drawn = sums-many L t in
+    let summed = ap (λ (n : ℕ). take n (sets sums 0 (sumsOf L t))) drawn ∙ stored-first (sumsOf L t) sums (omega (arith, drawn, yes .room-sums)) in
+    subst (AreasAnswered L t) (sym (measured-done L t areas sums (yes .held) (yes .room-areas) (yes .room-sums)))
+    (record {
+      contours = refl;
+      areas = stands;
+      edges = refl;
+      sums = summed;
+      last = ap (lastOf (pos 0)) (sym summed);
+      total = total-same L t (accepted .sound) ∙ ap sumOf (sym stands);
+      metal = metal L t accepted;
+    })

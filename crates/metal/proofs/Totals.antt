@@ -1,7 +1,7 @@
 -- The areas of all contours together. Around a sample the contours turn once together if it is inside and not at all if it is outside, so the samples
 -- within the contours, each with its contour's sign, are the inside samples; and the differences of the areas from them add up. That the total is
 -- above 0 comes from the polygons of all contours together, for which `encloses-inside` has it.
-use mathlib.Core.Path.{_≡_, refl, sym, ap, _∙_}
+use mathlib.Core.Path.{_≡_, refl, sym, ap, ap₂, _∙_}
 use mathlib.Core.Bool.{Bool, true, false, cond}
 use mathlib.Core.List.{List, [], _∷_, map}
 use Prim.Native.Nat.{ℕ, zero, suc, _+_, _*_, _≤_, _<_}
@@ -35,7 +35,9 @@ use Rattle.winding.proofs.Together.{together}
 use Rattle.winding.proofs.Firsts.{firsts-induct}
 use Rattle.polygon.specs.Polygon.{added, taken, enclosed, inside}
 use Rattle.polygon.proofs.Enclosed.{encloses-inside}
-use Rattle.area.specs.Areas.{sumOf, twiceArea, totalOf}
+use Rattle.shoelace.specs.Sums.{totalOf}
+use Rattle.area.specs.Areas.{sumOf, twiceArea, areasOf}
+use Rattle.area.proofs.Totals.{total-same}
 use Rattle.metal.proofs.Fractions.{addedAlong, takenAlong, scaled}
 use Rattle.metal.proofs.Signs.{area-diff, samplesWithin, samples-diff, contour-near, divided, sign-by}
 
@@ -156,7 +158,7 @@ add-near a b c d =
 
 module _ {L : Layer} {t : List ℕ} (accepted : Accepted L t) where
   -- each contour's difference is less than its bound, so all together differ by one less for each
-  near-all : natAbs (totalOf L t -ℤ samplesOf L (firstSticks L)) + length (firstSticks L)
+  near-all : natAbs (sumOf (areasOf L t) -ℤ samplesOf L (firstSticks L)) + length (firstSticks L)
       ≤ 65536 * total (λ f. length (contourOf L f)) (firstSticks L)
   near-all =
       firsts-induct (walkOf L)
@@ -176,7 +178,7 @@ module _ {L : Layer} {t : List ℕ} (accepted : Accepted L t) where
         near-all,
         lengths,
         length-map (firstSticks L) (contourOf L),
-        ap (λ z. natAbs (totalOf L t -ℤ z)) (all-samples (accepted .sound)),
+        ap₂ (λ y z. natAbs (y -ℤ z)) (total-same L t (accepted .sound)) (sym (all-samples (accepted .sound))),
       )
 
   -- what the drawn edges of some contours add and take, and the sum of their areas
@@ -202,5 +204,5 @@ module _ {L : Layer} {t : List ℕ} (accepted : Accepted L t) where
       (λ l. total (added L G (s .o)) l + s .M * s .M * takes l ≡ total (taken L G (s .o)) l + s .M * s .M * adds l)
       (omega arith)
       (λ f l is-first e. omega (arith, s .balanced f is-first)) in
-      sign-by false (totalOf L t) (adds (firstSticks L)) (takes (firstSticks L)) n (inside L) (areas-diff (firstSticks L))
-      (divided (s .M) n (inside L) _ _ _ _ has-stick (encloses-inside L sound G (s .o) (s .within)) balanced)
+      rw (total-same L t sound) (sign-by false (sumOf (areasOf L t)) (adds (firstSticks L)) (takes (firstSticks L)) n (inside L) (areas-diff (firstSticks L))
+      (divided (s .M) n (inside L) _ _ _ _ has-stick (encloses-inside L sound G (s .o) (s .within)) balanced))

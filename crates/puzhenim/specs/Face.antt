@@ -3,7 +3,6 @@
 use mathlib.Core.Bool.{cond}
 use mathlib.Core.List.{List}
 use Prim.Native.Nat.{ℕ}
-use lib.IntN.{ℤ}
 use lib.Dec.{ltb}
 use lib.ListN.{length}
 use Rattle.grid.specs.Layer.{Layer}
@@ -19,7 +18,7 @@ use Rattle.reading.specs.Reading.{readOf}
 use Rattle.planner.specs.Plan.{planOf}
 use Rattle.area.specs.Call.{measureOf}
 use Rattle.view.specs.View.{sampleOf}
-use Rattle.report.specs.Results.{Result, Outputs, fourFigures, traceResult, countsResult, smoothResult, simplifyResult, rollResult, writeResult, readResult, planResult, measureResult, sampleResult}
+use Rattle.report.specs.Results.{Result, Outputs, Measures, fourFigures, traceResult, countsResult, smoothResult, simplifyResult, rollResult, writeResult, readResult, planResult, measureResult, sampleResult}
 
 -- what an exported function returns, the buffers that it was lent at its exit, and the figures
 pub record Face (B : Type 0) : Type 0 where
@@ -60,8 +59,8 @@ readFace L t sheet figures = face figures t (readResult (readOf L t sheet))
 abbrev pub planFace : Layer → List ℕ → Outputs → List ℕ → Face Outputs
 planFace L t out figures = face figures out (planResult (planOf L t (out .items) (out .points)))
 
-abbrev pub measureFace : Layer → List ℕ → List ℤ → List ℕ → Face (List ℤ)
-measureFace L t out figures = face figures out (measureResult (measureOf L t out))
+abbrev pub measureFace : Layer → List ℕ → Measures → List ℕ → Face Measures
+measureFace L t out figures = face figures out (measureResult (measureOf L t (out .areas) (out .sums)))
 
 -- one sample of a layer view
 abbrev pub sampleFace : Layer → ℕ → ℕ → List ℕ → Face (Unit {0})

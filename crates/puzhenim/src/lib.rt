@@ -159,14 +159,15 @@ pub extern "C" fn pz_areas(
     bitmap: &[u8],
     table: &[u16],
     areas: &mut [i64],
+    sums: &mut [i64],
     figures: &mut [u64],
 ) -> u32
-    ensures { λ r. ⌜ record { number = r; buffers = now (areas .exit); figures = now (figures .exit) } ≡ measureFace (layerOf (sizeOf w h) (now (bitmap .entry))) (now (table .entry)) (now (areas .entry)) (now (figures .entry)) ⌝ }
+    ensures { λ r. ⌜ record { number = r; buffers = record { areas = now (areas .exit); sums = now (sums .exit) }; figures = now (figures .exit) } ≡ measureFace (layerOf (sizeOf w h) (now (bitmap .entry))) (now (table .entry)) (record { areas = now (areas .entry); sums = now (sums .entry) }) (now (figures .entry)) ⌝ }
 {
     if figures.len() < 4 {
         return SHORT_OUTPUT;
     }
-    let answer = area::areas(w, h, bitmap, table, areas);
+    let answer = area::areas(w, h, bitmap, table, areas, sums);
     report::put_report(figures, report::measured_report(answer))
 }
 

@@ -92,12 +92,16 @@ abbrev pub twosComplement : ℤ → ℕ
 twosComplement (pos n) = n
 twosComplement (negsuc n) = 2 ^ 64 - suc n
 
--- Areas: place, contours, total; and its output
-abbrev pub measureResult : Area.Outcome → Result (List ℤ)
+-- Areas: place, contours, drawn edges, total; and its two outputs
+pub record Measures : Type 0 where
+  pub areas : List ℤ
+  pub sums : List ℤ
+
+abbrev pub measureResult : Area.Outcome → Result Measures
 measureResult o =
     record {
-      report = record { number = o .refusal; place = o .place; first = o .contours; second = twosComplement (o .total); third = 0 };
-      buffers = o .output;
+      report = record { number = o .refusal; place = o .place; first = o .contours; second = o .edges; third = twosComplement (o .total) };
+      buffers = record { areas = o .areas; sums = o .sums };
     }
 
 -- One sample of a layer view: place, sample

@@ -17,7 +17,6 @@ use view::Sampled;
 ghost use mathlib.Core.Path.{_≡_};
 ghost use mathlib.Core.List.{List};
 ghost use Prim.Native.Nat.{ℕ};
-ghost use lib.IntN.{ℤ};
 ghost use Rattle.trace.specs.Trace as Trace;
 ghost use Rattle.trace.specs.Counts as Counts;
 ghost use Rattle.smooth.specs.Call as Smooth;
@@ -27,7 +26,7 @@ ghost use Rattle.sheet.specs.Written as Write;
 ghost use Rattle.reading.specs.Reading as Read;
 ghost use Rattle.planner.specs.Plan as Plan;
 ghost use Rattle.area.specs.Call as Area;
-ghost use Rattle.report.specs.Results.{Outputs, traceResult, countsResult, smoothResult, simplifyResult, rollResult, writeResult, readResult, planResult, measureResult, sampleResult};
+ghost use Rattle.report.specs.Results.{Outputs, Measures, traceResult, countsResult, smoothResult, simplifyResult, rollResult, writeResult, readResult, planResult, measureResult, sampleResult};
 
 pub fn traced_report(answer: Traced) -> Report
     ensures { λ r. ⌜ ((t : List ℕ) → record { report = r; buffers = t } ≡ traceResult (Trace.outcome answer t)) ⌝ }
@@ -121,10 +120,14 @@ pub fn planned_report(answer: Planned) -> Report
 }
 
 pub fn measured_report(answer: Measured) -> Report
-    ensures { λ r. ⌜ ((out : List ℤ) → record { report = r; buffers = out } ≡ measureResult (Area.outcome answer out)) ⌝ }
+    ensures { λ r. ⌜ ((out : Measures) → record { report = r; buffers = out } ≡ measureResult (Area.outcome answer (out .areas) (out .sums))) ⌝ }
 {
     match answer {
-        Measured::Done { contours, total } => done_report(contours, figure_of(total), 0),
+        Measured::Done {
+            contours,
+            edges,
+            total,
+        } => done_report(contours, edges, figure_of(total)),
         Measured::Refused(q, place) => refused_report(q, place),
     }
 }

@@ -1,25 +1,24 @@
--- `put_areas` meets its contract. The invariant: the numbers of the contours that are left, stored from here on and summed, give the whole.
+-- `put_areas` meets its contract. The invariant: the numbers of the contours that are left, stored from here on, give the whole.
 use Prim.Native.Nat.{_≤_}
 use native.Mathlib.Omega.{arith}
+use mathlib.Core.Path.{_∙_}
 use borrow.Author.Needs.{needs}
 use lib.ListN.{length}
-use mir.Syntax.{w64}
-use mir.Val.{toZ}
-use Rattle.arith.proofs.Bounds.{sized, in-range, exact}
+use Rattle.arith.proofs.Bounds.{sized, exact}
 use Rattle.grid.specs.Layer.{layerOf}
 use Rattle.contour.specs.Cursors.{left}
 use Rattle.contour.proofs.Cursors.{here-stick, fewer}
-use Rattle.area.specs.Measuring.{Measurable}
-use Rattle.area.proofs.Storing.{PartMeasured, area-small, measured-few, measured-start, measured-small, measured-room, measured-turn, measured-end}
+use Rattle.shoelace.specs.Adds.{Measurable}
+use Rattle.area.proofs.Summing.{area-small}
+use Rattle.area.proofs.Storing.{PartMeasured, measured-few, measured-start, measured-room, measured-turn, measured-end}
 use Rattle.area.proofs.contours.put_areas.Statement.{statement}
 use Rattle.area.proofs.contours.put_areas.Tie as tie
 
 abbrev Inv-loop : tie.InvT-loop
-Inv-loop size bitmap table set areas₀ total₀ place₀ at₀ areas total place at =
-    PartMeasured (layerOf size bitmap) table areas₀ areas (toZ w64 total) place at
+Inv-loop size bitmap table set areas₀ place₀ at₀ areas place at = PartMeasured (layerOf size bitmap) table areas₀ areas place at
 
 abbrev μ-loop : tie.MeasureT-loop
-μ-loop size bitmap table set areas₀ total₀ place₀ at₀ areas total place at = length (left (layerOf size bitmap) at)
+μ-loop size bitmap table set areas₀ place₀ at₀ areas place at = length (left (layerOf size bitmap) at)
 
 abbrev start : tie.At-loop Inv-loop μ-loop → tie.Start Inv-loop μ-loop
 start c = c .before .before .before .before
@@ -34,18 +33,11 @@ here c =
 few : (c : tie.At-loop Inv-loop μ-loop) → c .loop .place ≤ 2095104
 few c = measured-few (c .loop .inv) (start c .pre .0)
 
-slice-set-from-area : tie.Need-slice-set-from-area Inv-loop μ-loop
-slice-set-from-area c =
+slice-set-from-areas : tie.Need-slice-set-from-areas Inv-loop μ-loop
+slice-set-from-areas c =
     let in-loop = c .before in
     let given = start (in-loop .before) .pre in
     measured-room (in-loop .before .loop .inv) (given .1 .0) (in-loop .loop-test .taken) (given .1 .1)
-
-add-total : tie.Need-add-total Inv-loop μ-loop
-add-total c =
-    let at-loop = c .before .before in
-    let so-far = measured-small (at-loop .loop .inv) (start at-loop .pre .0) in
-    let one = area-small (here (c .before)) (c .contour-area .ensures) in
-    in-range (search sized depth 9) tt
 
 next-contour-requires : tie.Need-next-contour-requires Inv-loop μ-loop
 next-contour-requires c κs =
@@ -57,21 +49,19 @@ loop-again : tie.Need-loop-again Inv-loop μ-loop
 loop-again c =
     let measured = c .before in
     let at-loop = measured .before .before in
-    let so-far = measured-small (at-loop .loop .inv) (start at-loop .pre .0) in
-    let one = area-small (here (measured .before)) (measured .contour-area .ensures) in
-    measured-turn (at-loop .loop .inv) (measured .contour-area .ensures) (exact (search sized depth 9) tt) (exact (search sized depth 9) tt)
-    (omega arith) (c .next-contour .ensures)
+    let area = measured .contour-area .ensures in
+    let small = area-small (here (measured .before)) area in
+    measured-turn (at-loop .loop .inv) (exact (search sized depth 9) tt ∙ area .is) (omega arith) (c .next-contour .ensures)
 
 returns : tie.Need-returns Inv-loop μ-loop
 returns c =
     let at-loop = c .before in
-    let given = start at-loop .pre in
-    measured-end (at-loop .loop .inv) (given .1 .0) (given .0) (c .loop-test .left)
+    measured-end (at-loop .loop .inv) (start at-loop .pre .1 .0) (c .loop-test .left)
 
 pub put-areas-spec : {M : Type 1} → statement M
 put-areas-spec =
     tie.close
     (tie.spec Inv-loop μ-loop (λ c κs. search needs) (λ c. measured-start (c .first-contour .ensures)) (λ c κs. here c)
-    (λ c. omega (arith, few (c .before .before))) slice-set-from-area add-total (λ c. omega (arith, few (c .before .before)))
+    (λ c. omega (arith, few (c .before .before))) slice-set-from-areas (λ c. omega (arith, few (c .before .before)))
     next-contour-requires (λ c. fewer (c .next-contour .ensures .left)) loop-again
     (λ c. c .before .loop .inv .same-length) returns)

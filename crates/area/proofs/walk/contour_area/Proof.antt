@@ -15,7 +15,7 @@ use Rattle.contour.specs.Walk.{rest}
 use Rattle.contour.specs.Contours.{walkOf}
 use Rattle.table.specs.Vertices.{isKept, keptAt, offsetAt}
 use Rattle.table.proofs.Lent.{has-entry}
-use Rattle.area.specs.Measuring.{Measurable}
+use Rattle.shoelace.specs.Adds.{Measurable}
 use Rattle.area.proofs.Summing.{PartSummed, summed-start, summed-here, summed-less, summed-small, Closing, Turned, summed-turn, summed-end, closing-small, passed-kept, area-found}
 use Rattle.area.proofs.walk.contour_area.Statement.{statement}
 use Rattle.area.proofs.walk.contour_area.Tie as tie

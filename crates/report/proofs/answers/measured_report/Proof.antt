@@ -10,6 +10,6 @@ measured-report-spec =
     tie.close (tie.spec (λ c. search needs) (λ c κs. search needs) (λ c κs. search needs) (λ c. search needs) (λ c κs. search needs)
     (λ c out.
     let told = c .before .before .before .answer .given in
-    let fits = toZ-ofZ {w = w64} {z = told .0 .1 .0} (record { sfits = c .before .before .known-told .given .1 .0 .1 }) in
+    let fits = toZ-ofZ {w = w64} {z = told .0 .1 .1 .0} (record { sfits = c .before .before .known-told .given .1 .1 .0 .1 }) in
     rw (c .done-report .ensures, c .before .figure-of .ensures, told .1, fits))
     (λ c out. rw (c .refused-report .ensures, c .before .before .answer2 .given .1)))

@@ -3,8 +3,8 @@ use mathlib.Core.Path.{_∙_}
 use borrow.Author.Needs.{needs}
 use lib.IntN.{_-ℤ_, _*ℤ_}
 use Rattle.arith.proofs.Bounds.{sized, in-range, exact, within}
-use Rattle.area.proofs.walk.cross_of.Statement.{statement}
-use Rattle.area.proofs.walk.cross_of.Tie as tie
+use Rattle.shoelace.proofs.adds.cross_of.Statement.{statement}
+use Rattle.shoelace.proofs.adds.cross_of.Tie as tie
 
 returns : tie.Need-returns
 returns c =
