@@ -28,7 +28,7 @@ declare! {
     pz_write_sheet(table: *const u16, entries: usize, sheet: *mut u8, length: usize);
     pz_read_sheet(table: *mut u16, entries: usize, sheet: *const u8, length: usize);
     pz_plan(table: *const u16, entries: usize, items: *mut u8, item_count: usize, points: *mut f64, float_count: usize);
-    pz_areas(table: *const u16, entries: usize, areas: *mut i64, area_count: usize);
+    pz_areas(table: *const u16, entries: usize, areas: *mut i64, area_count: usize, sums: *mut i64, sum_count: usize);
 }
 
 extern "C" {
@@ -39,7 +39,7 @@ extern "C" {
 const FIGURE_BEFORE: u64 = 0xA5A5_A5A5_A5A5_A5A5;
 const BYTE_BEFORE: u8 = 0xAA;
 const FLOAT_BEFORE: f64 = -1.0;
-const AREA_BEFORE: i64 = -1;
+const SIGNED_BEFORE: i64 = -1;
 const GUARD: usize = 8;
 
 /// A buffer between two guards.
@@ -80,11 +80,12 @@ struct Buffers {
     bytes: Lent<u8>,
     floats: Lent<f64>,
     areas: Lent<i64>,
+    sums: Lent<i64>,
 }
 
 impl Buffers {
     fn stand(&self) -> bool {
-        self.table.stands() && self.bytes.stands() && self.floats.stands() && self.areas.stands()
+        self.table.stands() && self.bytes.stands() && self.floats.stands() && self.areas.stands() && self.sums.stands()
     }
 }
 
@@ -94,6 +95,7 @@ struct Lengths {
     bytes: usize,
     floats: usize,
     areas: usize,
+    sums: usize,
 }
 
 struct State {
@@ -135,7 +137,8 @@ impl State {
             table: Lent::new(&self.table, 0x5A5A),
             bytes: Lent::new(&vec![BYTE_BEFORE; outputs.bytes], 0x5A),
             floats: Lent::new(&vec![FLOAT_BEFORE; outputs.floats], -2.0),
-            areas: Lent::new(&vec![AREA_BEFORE; outputs.areas], -2),
+            areas: Lent::new(&vec![SIGNED_BEFORE; outputs.areas], -2),
+            sums: Lent::new(&vec![SIGNED_BEFORE; outputs.sums], -3),
         };
         let mut after = before.clone();
         let mut short = [FIGURE_BEFORE; 3];
@@ -181,10 +184,17 @@ impl State {
         self.line('L', format!("{} {} {}", words, bytes, points))
     }
 
-    fn areas(&mut self, n: usize) -> String {
-        let call = call!(pz_areas, |b: &mut Buffers| b.areas.pointer(), |b: &mut Buffers| b.areas.len());
-        let (words, after) = self.made(2, Lengths { areas: n, ..Lengths::default() }, &call);
-        self.line('A', format!("{} {}", words, digest(after.areas.slice().iter().flat_map(|area| pieces(*area as u64)))))
+    fn areas(&mut self, areas: usize, sums: usize) -> String {
+        let call = call!(
+            pz_areas,
+            |b: &mut Buffers| b.areas.pointer(),
+            |b: &mut Buffers| b.areas.len(),
+            |b: &mut Buffers| b.sums.pointer(),
+            |b: &mut Buffers| b.sums.len()
+        );
+        let (words, after) = self.made(3, Lengths { areas, sums, ..Lengths::default() }, &call);
+        let [areas, sums] = [after.areas, after.sums].map(|lent| digest(lent.slice().iter().flat_map(|number| pieces(*number as u64))));
+        self.line('A', format!("{} {} {}", words, areas, sums))
     }
 
     /// The view is lent no table.
@@ -233,7 +243,7 @@ impl State {
                 self.plain('D', 0, &call!(pz_read_sheet, sheet, |_: &mut Buffers| bytes.len()))
             }
             Command::Planner { items, floats } => self.plan(*items as usize, *floats as usize),
-            Command::Areas { n } => self.areas(*n as usize),
+            Command::Areas { areas, sums } => self.areas(*areas as usize, *sums as usize),
             Command::View { column, row } => self.sample(*column, *row),
             other => panic!("the library has no call {}", other.letter() as char),
         }

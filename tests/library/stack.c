@@ -19,7 +19,7 @@
 static uint8_t bitmap[SIDE * SIDE / 8], sheet[4 * EDGES], roll[7 * EDGES + 7], items[2 * EDGES];
 static uint16_t table[EDGES], before[EDGES];
 static double points[2 * EDGES];
-static int64_t areas[EDGES / 4];
+static int64_t areas[EDGES / 4], sums[EDGES], added[EDGES];
 static uint64_t figures[4];
 static size_t sheet_len, roll_len;
 static uint8_t *stack, *start;
@@ -36,7 +36,7 @@ static uint32_t edit(void) { return pz_roll(LAYER, TABLE, roll, roll_len, 255, F
 static uint32_t write_sheet(void) { return pz_write_sheet(LAYER, TABLE, sheet, sizeof sheet, FIGURES); }
 static uint32_t read_sheet(void) { return pz_read_sheet(LAYER, TABLE, sheet, sheet_len, FIGURES); }
 static uint32_t plan(void) { return pz_plan(LAYER, TABLE, items, sizeof items, points, 2 * EDGES, FIGURES); }
-static uint32_t measure(void) { return pz_areas(LAYER, TABLE, areas, EDGES / 4, FIGURES); }
+static uint32_t measure(void) { return pz_areas(LAYER, TABLE, areas, EDGES / 4, sums, EDGES, FIGURES); }
 static uint32_t sample(void) { return pz_sample(LAYER, 1, 1, FIGURES); }
 
 /* A call, and the most stack that the header grants it. */
@@ -156,32 +156,63 @@ static int64_t traced_area(void) {
 
 static int64_t coordinate(size_t k) { return (int64_t)(256 * points[k]); }
 
-/* Twice what the contours of a list of so many items enclose, by the trapezoids between their edges and x = 0. */
+/* The number of the stick that a point of the list lies on: a horizontal one in a row of samples. */
+static size_t stick_of(size_t k) {
+    size_t x = coordinate(2 * k), y = coordinate(2 * k + 1);
+    return y % 256 == 0 ? y / 256 * (SIDE - 1) + x / 256 : HORIZONTAL + y / 256 * SIDE + x / 256;
+}
+
+/* What the edge from a point of the list to another adds. */
+static int64_t adds(size_t from, size_t to) {
+    return coordinate(2 * from) * coordinate(2 * to + 1) - coordinate(2 * to) * coordinate(2 * from + 1);
+}
+
+/* Twice what the contours of a list of so many items enclose, by the trapezoids between their edges and x = 0. What each edge adds is left at the
+ * number of the stick that it starts from. */
 static int64_t listed_area(size_t count) {
     int64_t area = 0;
     size_t first = 0, last = 0, next = 0;
     for (size_t i = 0; i < count; i++) {
         size_t to = items[i] == 'Z' ? first : next++;
-        if (items[i] == 'M') first = to;
-        else area += (coordinate(2 * last) + coordinate(2 * to)) * (coordinate(2 * to + 1) - coordinate(2 * last + 1));
+        if (items[i] == 'M') {
+            first = to;
+        } else {
+            area += (coordinate(2 * last) + coordinate(2 * to)) * (coordinate(2 * to + 1) - coordinate(2 * last + 1));
+            added[stick_of(last)] = adds(last, to);
+        }
         last = to;
     }
     return area;
 }
 
-/* The areas: those of outlines are above 0 and those of bores below, they add up to the total, and what is past them stays. */
+/* The areas: those of outlines are above 0 and those of bores below, they add up to the total, and what is past them stays. The sums: one for each
+ * kept vertex, the last of them the total, and what is past them stays. */
 static void measured(uint64_t outlines, uint64_t bores, int64_t total) {
-    uint64_t contours = outlines + bores, above = 0, below = 0, stay = 0;
+    uint64_t contours = outlines + bores, edges = entries(1, 255) + entries(513, 767), above = 0, below = 0, stay = 0;
     int64_t sum = 0;
     memset(areas, 0xFF, sizeof areas);
-    make(&AREAS), answered(&AREAS, contours, total, 0);
+    memset(sums, 0xFF, sizeof sums);
+    make(&AREAS), answered(&AREAS, contours, edges, total);
     for (size_t i = 0; i < contours; i++) above += areas[i] > 0, below += areas[i] < 0, sum += areas[i];
     for (size_t i = contours; i < EDGES / 4; i++) stay += areas[i] == -1;
+    for (size_t i = edges; i < EDGES; i++) stay += sums[i] == -1;
     expect(above == outlines && below == bores && sum == total, "pz_areas", "other areas");
-    expect(stay == EDGES / 4 - contours, "pz_areas", "more areas");
+    expect(sums[edges - 1] == total, "pz_areas", "another last sum");
+    expect(stay == EDGES / 4 - contours + EDGES - edges, "pz_areas", "more areas or sums");
 }
 
-/* The sheet, read back over another table, and the list, with so many vertices kept; the areas are those of the list's contours. */
+/* The sums after each edge of the list, by the number of the stick that it starts from. */
+static void summed(void) {
+    int64_t sum = 0;
+    size_t place = 0;
+    for (size_t e = 0; e < EDGES; e++) {
+        if (table[e] % 512 == 0 || table[e] % 512 > 255) continue;
+        sum += added[e];
+        expect(sums[place++] == sum, "pz_areas", "other sums");
+    }
+}
+
+/* The sheet, read back over another table, and the list, with so many vertices kept; areas and sums are those of the list's contours. */
 static void write_and_read(uint64_t outlines, uint64_t bores, uint64_t sticks, uint64_t kept) {
     uint64_t contours = outlines + bores;
     memcpy(before, table, sizeof table);
@@ -192,6 +223,7 @@ static void write_and_read(uint64_t outlines, uint64_t bores, uint64_t sticks, u
     expect(!memcmp(before, table, sizeof table), "pz_read_sheet", "another table");
     make(&PLAN), answered(&PLAN, kept + contours, 2 * kept, 0);
     measured(outlines, bores, listed_area(kept + contours));
+    summed();
 }
 
 /* All calls on a layer of so many outlines and bores. */

@@ -1,33 +1,66 @@
 // Cases of Note 6, "metal per contour", worked out by hand: a layer as traced with some
-// entries set, an output of so many numbers, and what the call gives. The numbers are
-// twice an area in 1/65,536 of a square pitch, so that a square pitch is 131072.
+// entries set, outputs of so many numbers, and what the call gives. The numbers are
+// twice an area in 1/65,536 of a square pitch, so that a square pitch is 131072. Of the sums
+// they have the last; all sums are in sums_cases.rs.
 
 use crate::areas::areas;
 use crate::cases::{check, traced, Check, BAR, SINGLE};
+use crate::hold::is_removed;
 use crate::layer::Layer;
-use crate::machine::AREA_BEFORE;
+use crate::machine::{Machine, SIGNED_BEFORE};
 use crate::picture::{frames, nested, shown};
 use crate::pins_cases::{LONG_BAR, RING, RING_BORE, RING_OUTLINE, SINGLE_STICKS};
 
 /// Entries of a table by their numbers.
-type Entries = [(usize, u16)];
+pub type Entries = [(usize, u16)];
 
+/// Number, place, contours, drawn edges and total; what is written of the areas; and of the
+/// sums the last ones, or all.
+pub struct Wanted {
+    pub figures: [i64; 5],
+    pub areas: Vec<i64>,
+    pub sums: Vec<i64>,
+}
+
+/// The outputs hold so many areas and so many sums.
 pub struct Case {
-    name: &'static str,
+    pub name: &'static str,
     pub layer: Layer,
     pub entries: Vec<(usize, u16)>,
-    pub n: usize,
-    wanted: Vec<i64>,
+    pub room: [usize; 2],
+    pub wanted: Wanted,
 }
 
-/// What an output of so many numbers holds after a call that writes these.
-fn output(n: usize, areas: &[i64]) -> Vec<i64> {
-    let mut output = vec![AREA_BEFORE; n];
-    output[..areas.len()].copy_from_slice(areas);
-    output
+/// As many drawn edges as kept vertices: the sticks, less those removed.
+fn edges(layer: &Layer, entries: &Entries) -> usize {
+    let sticks = (0..layer.edge_count()).filter(|&number| layer.is_stick(number));
+    let removed = entries.iter().filter(|(_, entry)| is_removed(*entry));
+    sticks.count() - removed.count()
 }
 
-/// A call that is done: the areas in the order of the contours, and their total.
+/// A call that is done, on a layer and in an output of so many areas and one of exactly as
+/// many sums as there are: the areas in the order of the contours, and their total.
+fn done_on(
+    name: &'static str,
+    (layer, entries): (Layer, &Entries),
+    n: usize,
+    areas: &[i64],
+    total: i64,
+) -> Case {
+    let edges = edges(&layer, entries);
+    Case {
+        name,
+        layer,
+        entries: entries.to_vec(),
+        room: [n, edges],
+        wanted: Wanted {
+            figures: [0, 0, areas.len() as i64, edges as i64, total],
+            areas: areas.to_vec(),
+            sums: vec![total; edges.min(1)],
+        },
+    }
+}
+
 fn done(
     name: &'static str,
     (rows, entries): (&str, &Entries),
@@ -35,21 +68,14 @@ fn done(
     areas: &[i64],
     total: i64,
 ) -> Case {
-    let figures = vec![0, 0, areas.len() as i64, total];
-    Case {
-        name,
-        layer: shown(rows),
-        entries: entries.to_vec(),
-        n,
-        wanted: [figures, output(n, areas)].concat(),
-    }
+    done_on(name, (shown(rows), entries), n, areas, total)
 }
 
-/// A call that is refused.
-fn refused(
+/// A call that is refused, with outputs of so many numbers.
+pub fn refused(
     name: &'static str,
     (rows, entries): (&str, &Entries),
-    n: usize,
+    room: [usize; 2],
     number: i64,
     place: i64,
 ) -> Case {
@@ -57,13 +83,17 @@ fn refused(
         name,
         layer: shown(rows),
         entries: entries.to_vec(),
-        n,
-        wanted: [vec![number, place, 0, 0], output(n, &[])].concat(),
+        room,
+        wanted: Wanted {
+            figures: [number, place, 0, 0, 0],
+            areas: Vec::new(),
+            sums: Vec::new(),
+        },
     }
 }
 
 /// The same entry on all these sticks.
-fn all_at(sticks: &[usize], entry: u16) -> Vec<(usize, u16)> {
+pub fn all_at(sticks: &[usize], entry: u16) -> Vec<(usize, u16)> {
     sticks.iter().map(|&stick| (stick, entry)).collect()
 }
 
@@ -188,8 +218,8 @@ fn ring() -> Vec<Case> {
         done("all in", (RING, &within), 2, &[528388, -260100], 268288),
         done("a longer output", (RING, &[]), 3, &traced, 1048576),
         done("a long output", (RING, &[]), 40, &traced, 1048576),
-        refused("an output one short", (RING, &[]), 1, 14, 0),
-        refused("no output", (RING, &[]), 0, 14, 0),
+        refused("an output one short", (RING, &[]), [1, 16], 14, 0),
+        refused("no output", (RING, &[]), [0, 16], 14, 0),
     ]
 }
 
@@ -201,15 +231,9 @@ fn several() -> Vec<Case> {
     let one = ".... ..#. .#.. ....";
     let other = ".... .#.. ..#. ....";
     let joined = "...... .####. .##.#. .#.##. .####. ......";
-    let four = |name, entries: &Entries, last: i64, total: i64| Case {
-        layer: nested().remove(0),
-        ..done(
-            name,
-            (SINGLE, entries),
-            4,
-            &[3211264, -1114112, 65536, last],
-            total,
-        )
+    let four = |name, entries: &Entries, last: i64, total: i64| {
+        let areas = [3211264, -1114112, 65536, last];
+        done_on(name, (nested().remove(0), entries), 4, &areas, total)
     };
     vec![
         done("a diagonal", (one, &[]), 2, &[65536, 65536], 131072),
@@ -229,21 +253,21 @@ fn several() -> Vec<Case> {
     ]
 }
 
-/// Without a contour nothing is written, and an output of no number is long enough.
+/// Without a contour nothing is written, and outputs of no number are long enough.
 fn no_contour() -> Vec<Case> {
     let blank = ".... .... ....";
     vec![
         done("no contour", (blank, &[]), 0, &[], 0),
         done("no contour, three numbers", (blank, &[]), 3, &[], 0),
-        refused("an entry without one", (blank, &[(5, 640)]), 0, 6, 5),
+        refused("an entry without one", (blank, &[(5, 640)]), [0, 0], 6, 5),
     ]
 }
 
-/// Questions 6 and 7 of the table, with an output that is too short and with one that is not.
+/// Questions 6 and 7 of the table, with outputs that are too short and with ones that are not.
 fn tables() -> Vec<Case> {
     let two = ".... ..#. .#.. ....";
     let both = |name, layer: (&str, &Entries), number, place| {
-        [0, 2].map(|n| refused(name, layer, n, number, place))
+        [[0, 0], [2, 8]].map(|room| refused(name, layer, room, number, place))
     };
     let cases = [
         both("0 on a stick", (SINGLE, &[(2, 0)]), 6, 2),
@@ -271,44 +295,64 @@ pub fn cases() -> Vec<Case> {
     groups.into_iter().flatten().collect()
 }
 
-/// Number, place, contours and total, and then the whole output.
-fn measured(w: u16, h: u16, bitmap: &[u8], table: &[u16], n: usize) -> Vec<i64> {
-    let mut output = vec![AREA_BEFORE; n];
-    let figures = match areas(w, h, bitmap, table, &mut output) {
-        Ok(done) => vec![0, 0, done.contours as i64, done.total],
-        Err(refusal) => vec![refusal.number as i64, refusal.place as i64, 0, 0],
+/// Number, place and figures, and then the whole outputs, of which all sums but so many are
+/// left out.
+fn measured(machine: &Machine, room: [usize; 2], sums_seen: usize) -> Vec<i64> {
+    let [mut of_contours, mut sums] = room.map(|n| vec![SIGNED_BEFORE; n]);
+    let (w, h, bitmap, table) = (machine.w, machine.h, &machine.bitmap, &machine.table);
+    let (figures, edges) = match areas(w, h, bitmap, table, &mut of_contours, &mut sums) {
+        Ok(done) => {
+            let [contours, edges] = [done.contours, done.edges].map(|count| count as i64);
+            (vec![0, 0, contours, edges, done.total], done.edges)
+        }
+        Err(refusal) => {
+            let [number, place] = [refusal.number as i64, refusal.place as i64];
+            (vec![number, place, 0, 0, 0], 0)
+        }
     };
-    [figures, output].concat()
+    let from = edges.saturating_sub(sums_seen);
+    [&figures, &of_contours, &sums[from..]].concat()
 }
 
-/// Numbers as a check has them.
-fn compared(name: &'static str, wanted: &[i64], found: &[i64]) -> Check {
-    let bits = |numbers: &[i64]| -> Vec<u64> { numbers.iter().map(|&n| n as u64).collect() };
-    check(name, &bits(wanted), bits(found))
+/// What `measured` gives if these figures and numbers are right, in outputs that are longer
+/// or not.
+fn expected(wanted: &Wanted, room: [usize; 2]) -> Vec<i64> {
+    let [_, _, contours, edges, _] = wanted.figures;
+    let [more_areas, more_sums] = [room[0] - contours as usize, room[1] - edges as usize];
+    [
+        &wanted.figures[..],
+        &wanted.areas,
+        &vec![SIGNED_BEFORE; more_areas],
+        &wanted.sums,
+        &vec![SIGNED_BEFORE; more_sums],
+    ]
+    .concat()
 }
 
-fn check_of(case: &Case) -> Check {
+/// A call on a machine against what it should give.
+pub fn compared(name: &'static str, machine: &Machine, room: [usize; 2], wanted: &Wanted) -> Check {
+    let bits = |numbers: Vec<i64>| -> Vec<u64> { numbers.iter().map(|&n| n as u64).collect() };
+    let found = measured(machine, room, wanted.sums.len());
+    check(name, &bits(expected(wanted, room)), bits(found))
+}
+
+pub fn check_of(case: &Case) -> Check {
     let mut machine = traced(&case.layer);
     for &(number, entry) in &case.entries {
         machine.table[number] = entry;
     }
-    let found = measured(
-        machine.w,
-        machine.h,
-        &machine.bitmap,
-        &machine.table,
-        case.n,
-    );
-    compared(case.name, &case.wanted, &found)
+    compared(case.name, &machine, case.room, &case.wanted)
 }
 
-/// Questions 1 to 5, each before 14: the single sample's table, or another length, with an
-/// output of no number.
+/// Questions 1 to 5, each before 14: the single sample's table, or another length, with
+/// outputs of no number.
 fn bitmaps() -> Vec<Check> {
-    let table = traced(&shown(SINGLE)).table;
     let none = |name, (w, h), bitmap: &[u8], entries: usize, number, place| {
-        let found = measured(w, h, bitmap, &table[..entries], 0);
-        compared(name, &[number, place, 0, 0], &found)
+        let mut machine = traced(&shown(SINGLE));
+        (machine.w, machine.h, machine.bitmap) = (w, h, bitmap.to_vec());
+        machine.table.truncate(entries);
+        let wanted = refused(name, (SINGLE, &[]), [0, 0], number, place).wanted;
+        compared(name, &machine, [0, 0], &wanted)
     };
     vec![
         none("areas, W 1", (1, 3), &[0, 0, 0], 12, 1, 0),
@@ -323,11 +367,9 @@ fn bitmaps() -> Vec<Check> {
 
 /// Squares one in the other, of sides 1022, 1020 down to 2, by turns outlines and bores. With
 /// sides 2 × j the total is 65536 times the sum of 8 × j × j - 1, those with an even j taken
-/// away: 8 × (511 × 512 / 2) - 1.
+/// away: 8 × (511 × 512 / 2) - 1. A square has four vertices for each sample of its side, and
+/// all have 4 × 2 × (511 × 512 / 2).
 fn squares() -> Vec<Check> {
-    let layer = frames(1024, 1024);
-    let table = traced(&layer).table;
-    let found = measured(1024, 1024, &layer.bitmap(), &table, 512);
     let area = |i: i64| {
         let side = 1022 - 2 * i;
         let area = 65536 * (2 * side * side - 1);
@@ -337,11 +379,17 @@ fn squares() -> Vec<Check> {
             -area
         }
     };
-    let areas: Vec<i64> = (0..511).map(area).collect();
-    let wanted = [vec![0, 0, 511, 68585193472], output(512, &areas)].concat();
+    let total = 68585193472;
+    let wanted = Wanted {
+        figures: [0, 0, 511, 1046528, total],
+        areas: (0..511).map(area).collect(),
+        sums: vec![total],
+    };
+    let largest = wanted.areas[0] as u64;
+    let machine = traced(&frames(1024, 1024));
     vec![
-        compared("squares", &wanted, &found),
-        compared("the largest", &[136902541312], &found[4..5]),
+        compared("squares", &machine, [512, 1046530], &wanted),
+        check("the largest", &[136902541312], vec![largest]),
     ]
 }
 

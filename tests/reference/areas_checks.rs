@@ -1,6 +1,6 @@
 // Slow checks of the areas, which share no arithmetic with the call: how a contour winds around
 // the ends of its sticks, and how much it encloses by counting whole points and squares.
-// And what the vectors of Note 6 have to show.
+// And what the vectors of Note 6 have to show. Those of the sums are in sums_checks.rs.
 
 use std::collections::BTreeMap;
 
@@ -11,39 +11,87 @@ use crate::cases::traced;
 use crate::contour::{contours, Contour};
 use crate::depth::depths;
 use crate::flood::inside_and_sticks;
-use crate::hold::{is_pinned, is_removed};
+use crate::hold::{is_kept, is_pinned, is_removed};
 use crate::layer::{ask_1_to_4, Layer};
-use crate::machine::{Machine, AREA_BEFORE};
+use crate::machine::{Machine, SIGNED_BEFORE};
 use crate::order::turns;
 use crate::picture;
+use crate::prng::Rng;
 use crate::script::{parse, Command};
 use crate::sets::script;
-use crate::sets_areas::{bring_into, STATES};
+use crate::sets_areas::{bring_into, MOST_AREAS, MOST_SUMS, STATES};
+use crate::sums_checks;
 
 type Wrong = Vec<String>;
 
 /// What was met, and how often.
-type Seen = BTreeMap<&'static str, usize>;
+pub type Seen = BTreeMap<&'static str, usize>;
 
-/// The areas of a layer and their total; nothing if the call is refused, or if an output
-/// of another length is not used as the rules have it.
-fn measured(layer: &Layer, table: &[u16], contours: usize) -> Option<(Vec<i64>, i64)> {
+/// The areas of a layer, its sums, and the total.
+#[derive(PartialEq)]
+pub struct Found {
+    pub areas: Vec<i64>,
+    pub sums: Vec<i64>,
+    pub total: i64,
+}
+
+/// What a call finds with outputs of so many numbers, which all are in it, and the refusal's
+/// number and place, if it is refused; nothing if it counts others than are there.
+fn call(
+    layer: &Layer,
+    table: &[u16],
+    room: [usize; 2],
+    counts: [usize; 2],
+) -> Option<(Found, Option<(u64, usize)>)> {
     let (w, h, bitmap) = (layer.w as u16, layer.h as u16, layer.bitmap());
-    let mut longer = vec![AREA_BEFORE; contours + 2];
-    let done = areas(w, h, &bitmap, table, &mut longer).ok()?;
-    let mut exact = vec![7; contours];
-    let again = areas(w, h, &bitmap, table, &mut exact).ok()?;
-    let short = contours.saturating_sub(1);
-    let mut shorter = vec![7; short];
-    let refused = areas(w, h, &bitmap, table, &mut shorter).err();
-    let right = longer == [&exact[..], &[AREA_BEFORE; 2]].concat()
-        && (done.contours, again.contours) == (contours, contours)
-        && done.total == again.total
-        && shorter == vec![7; short]
-        && refused.map(|refusal| (refusal.number, refusal.place))
-            == [None, Some((14, 0))][contours.min(1)];
+    let [mut of_contours, mut sums] = room.map(|n| vec![SIGNED_BEFORE; n]);
+    let outcome = areas(w, h, &bitmap, table, &mut of_contours, &mut sums);
+    let (total, refused) = match outcome {
+        Ok(done) if [done.contours, done.edges] == counts => (done.total, None),
+        Ok(_) => return None,
+        Err(refusal) => (0, Some((refusal.number, refusal.place))),
+    };
+    let found = Found {
+        areas: of_contours,
+        sums,
+        total,
+    };
+    Some((found, refused))
+}
+
+/// So many contours, and as many drawn edges as vertices are kept.
+fn counts(table: &[u16], contours: usize) -> [usize; 2] {
+    let kept = table.iter().filter(|&&entry| is_kept(entry));
+    [contours, kept.count()]
+}
+
+/// What a layer of so many contours has; nothing if the call is refused, or if outputs of
+/// other lengths are not used as the rules have it.
+fn measured(layer: &Layer, table: &[u16], contours: usize) -> Option<Found> {
+    let exact = counts(table, contours);
+    let edges = exact[1];
+    let (found, refused) = call(layer, table, exact, exact)?;
+    let (longer, again) = call(layer, table, [contours + 2, edges + 3], exact)?;
+    let past = [SIGNED_BEFORE; 3];
+    let mut right = (refused, again) == (None, None)
+        && longer.areas == [&found.areas, &past[..2]].concat()
+        && longer.sums == [&found.sums, &past[..]].concat()
+        && longer.total == found.total;
+    for fewer in [[1, 0], [0, 1], [1, 1]] {
+        if contours == 0 {
+            break;
+        }
+        let room = [contours - fewer[0], edges - fewer[1]];
+        let [areas, sums] = room.map(|n| vec![SIGNED_BEFORE; n]);
+        let untouched = Found {
+            areas,
+            sums,
+            total: 0,
+        };
+        right &= call(layer, table, room, exact) == Some((untouched, Some((14, 0))));
+    }
     match right {
-        true => Some((exact, done.total)),
+        true => Some(found),
         false => None,
     }
 }
@@ -81,14 +129,14 @@ fn is_near(area: i64, samples: i64, sticks: usize) -> bool {
     (area - 131072 * samples).abs() < 65536 * sticks as i64
 }
 
-/// The areas of a held layer, or what is wrong with them: an outline has one above 0 and even
+/// What a held layer has, or what is wrong with it: an outline has an area above 0 and even
 /// depth, a bore one below 0 and odd depth; the total is their sum, above 0 if there is a
-/// contour; and each, and the total, is near the samples.
-fn looked_at(layer: &Layer, table: &[u16]) -> Result<Vec<i64>, &'static str> {
+/// contour; and each, and the total, is near the samples. And what is wrong with the sums.
+fn looked_at(rng: &mut Rng, layer: &Layer, table: &[u16]) -> Result<Found, &'static str> {
     let walks = contours(layer);
     let depths = depths(layer, &walks);
-    let (areas, total) = measured(layer, table, walks.len()).ok_or("the output or the figures")?;
-    for (i, &area) in areas.iter().enumerate() {
+    let found = measured(layer, table, walks.len()).ok_or("the outputs or the figures")?;
+    for (i, &area) in found.areas.iter().enumerate() {
         let way = way_around(layer, table, &walks[i]);
         if way != Some(area.signum()) || (area > 0) != (depths[i] % 2 == 0) {
             return Err("the sign of an area");
@@ -99,10 +147,14 @@ fn looked_at(layer: &Layer, table: &[u16]) -> Result<Vec<i64>, &'static str> {
         }
     }
     let (inside, sticks) = inside_and_sticks(layer);
+    let total = found.total;
     let near = sticks == 0 || (total > 0 && is_near(total, inside as i64, sticks));
-    match near && total == areas.iter().sum() {
-        true => Ok(areas),
-        false => Err("the total"),
+    if !near || total != found.areas.iter().sum() {
+        return Err("the total");
+    }
+    match sums_checks::wrong_sums(rng, (layer, table), &walks, &found) {
+        Some(what) => Err(what),
+        None => Ok(found),
     }
 }
 
@@ -152,8 +204,11 @@ fn random_layers(wrong: &mut Wrong, b: &mut Builder) {
         let state = if walks.is_empty() { 0 } else { i / 3 % STATES };
         bring_into(b, &layer, state);
         let table = &b.machine.table;
-        match looked_at(&layer, table) {
-            Ok(areas) => note(&mut seen, table, &walks, &areas),
+        match looked_at(&mut b.rng, &layer, table) {
+            Ok(found) => {
+                note(&mut seen, table, &walks, &found.areas);
+                sums_checks::note(&mut seen, (&layer, table), &walks, &found);
+            }
             Err(what) => wrong.push(format!("areas, {}: {:?} {:?}", what, layer, table)),
         }
     }
@@ -205,11 +260,11 @@ fn regular_layers(wrong: &mut Wrong, b: &mut Builder) {
     for layer in layers {
         let table = traced(&layer).table;
         let found = measured(&layer, &table, contours(&layer).len());
-        let total = found.map(|(_, total)| total);
+        let total = found.map(|found| found.total);
         let tables = [table, pushed(&layer, true), pushed(&layer, false)];
         let found = tables
             .iter()
-            .find_map(|table| looked_at(&layer, table).err());
+            .find_map(|table| looked_at(&mut b.rng, &layer, table).err());
         if total != Some(by_squares(&layer)) || found.is_some() {
             wrong.push(format!("areas, {:?} {:?}: {:?}", total, found, layer));
         }
@@ -217,7 +272,7 @@ fn regular_layers(wrong: &mut Wrong, b: &mut Builder) {
 }
 
 /// Is a point on an edge of a polygon?
-fn is_on(polygon: &[(i64, i64)], (x, y): (i64, i64)) -> bool {
+pub fn is_on(polygon: &[(i64, i64)], (x, y): (i64, i64)) -> bool {
     let after = polygon.iter().cycle().skip(1);
     polygon.iter().zip(after).any(|(&(ax, ay), &(bx, by))| {
         let within = (x - ax) * (x - bx) <= 0 && (y - ay) * (y - by) <= 0;
@@ -261,9 +316,12 @@ fn whole_points(wrong: &mut Wrong, b: &mut Builder) {
             .iter()
             .map(|walk| by_whole_points(&polygon(layer, table, walk)));
         let counted: Vec<i64> = counted.collect();
-        let found = measured(layer, table, walks.len()).map(|(areas, _)| areas);
-        if found.as_ref() != Some(&counted) {
-            wrong.push(format!("{:?}, counted {:?}: {:?}", found, counted, layer));
+        let right = measured(layer, table, walks.len()).map_or(false, |found| {
+            found.areas == counted
+                && sums_checks::by_whole_points(layer, table, &walks, &found.sums)
+        });
+        if !right {
+            wrong.push(format!("counted {:?}: {:?} {:?}", counted, layer, table));
         }
     }
 }
@@ -294,34 +352,36 @@ fn note_call(seen: &mut Seen, areas: &[i64], n: usize, number: u64) {
     }
 }
 
-/// The longest output that a vector may lend.
-const LONGEST: usize = 1024;
-
 /// What the vectors are there for.
 fn vectors_show(wrong: &mut Wrong) {
     let bytes = script("areas", None).expect("the set has this name");
-    let (mut machine, mut of_contours, mut of_calls) =
-        (Machine::default(), Seen::new(), Seen::new());
+    let (mut machine, mut of_layers, mut of_calls) = (Machine::default(), Seen::new(), Seen::new());
     for command in parse(&bytes).expect("a set is a good script") {
         let answer = machine.run(&command);
-        let (n, number) = match (command, answer) {
-            (Command::Areas { n }, Some(answer)) => (n as usize, answer.number),
+        let (room, number) = match (command, answer) {
+            (Command::Areas { areas, sums }, Some(answer)) => {
+                ([areas, sums].map(|n| n as usize), answer.number)
+            }
             _ => continue,
         };
-        if n > LONGEST {
-            wrong.push(format!("areas: an output of {} numbers", n));
+        if room[0] > MOST_AREAS || room[1] > MOST_SUMS {
+            wrong.push(format!("areas: outputs of {:?} numbers", room));
         }
-        let (w, h, bitmap, table) = (machine.w, machine.h, &machine.bitmap, &machine.table);
-        if [0, 14].contains(&number) {
-            let layer = ask_1_to_4(w, h, bitmap).expect("the layer is held");
-            let walks = contours(&layer);
-            let mut found = vec![0; walks.len()];
-            areas(w, h, bitmap, table, &mut found).expect("the output is long enough");
-            note(&mut of_contours, table, &walks, &found);
-            note_call(&mut of_calls, &found, n, number);
+        if ![0, 14].contains(&number) {
+            continue;
         }
+        let layer = ask_1_to_4(machine.w, machine.h, &machine.bitmap).expect("it is held");
+        let (walks, table) = (contours(&layer), &machine.table);
+        let counts = counts(table, walks.len());
+        let (found, _) = call(&layer, table, counts, counts).expect("it is measured");
+        note(&mut of_layers, table, &walks, &found.areas);
+        if number == 0 {
+            sums_checks::note(&mut of_layers, (&layer, table), &walks, &found);
+        }
+        note_call(&mut of_calls, &found.areas, room[0], number);
+        sums_checks::note_call(&mut of_calls, &found, room, number);
     }
-    expect_seen(wrong, &of_contours, 10);
+    expect_seen(wrong, &of_layers, 10);
     expect_seen(wrong, &of_calls, 1);
 }
 

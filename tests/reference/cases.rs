@@ -12,6 +12,7 @@ use crate::places;
 use crate::planner::planner;
 use crate::program::program;
 use crate::script::Command;
+use crate::sums_cases;
 
 pub const SINGLE: &str = "... .#. ...";
 pub const BAR: &str = "..... .###. .....";
@@ -334,7 +335,7 @@ fn order() -> Vec<Check> {
     ]
 }
 
-/// What is wrong with these cases, those of the questions' places, or those of Notes 5 and 6.
+/// What is wrong with these cases, those of the questions' places, or those of Notes 5 to 7.
 pub fn wrong() -> Vec<String> {
     let groups = vec![
         single_sample(),
@@ -350,6 +351,7 @@ pub fn wrong() -> Vec<String> {
         places::checks(),
         pins_cases::checks(),
         areas_cases::checks(),
+        sums_cases::checks(),
     ];
     let checks = groups.iter().flatten();
     checks

@@ -16,7 +16,7 @@ use crate::trace::{counts, trace, View};
 /// What fills a lent output before the call.
 const BYTE_BEFORE: u8 = 0xAA;
 const FLOAT_BEFORE: f64 = -1.0;
-pub const AREA_BEFORE: i64 = -1;
+pub const SIGNED_BEFORE: i64 = -1;
 
 /// "At first 0, 0 and empty."
 #[derive(Default, Clone)]
@@ -78,9 +78,9 @@ fn digest_floats(floats: &[f64]) -> u64 {
     digest_bits(floats.iter().map(|float| float.to_bits()))
 }
 
-/// Areas as two's complement has them.
-fn digest_areas(areas: &[i64]) -> u64 {
-    digest_bits(areas.iter().map(|&area| area as u64))
+/// Signed numbers as two's complement has them.
+fn digest_signed(numbers: &[i64]) -> u64 {
+    digest_bits(numbers.iter().map(|&number| number as u64))
 }
 
 impl Machine {
@@ -119,7 +119,7 @@ impl Machine {
             Command::WriteSheet { n } => self.write_sheet(*n as usize),
             Command::ReadSheet { bytes } => self.read_sheet(bytes),
             Command::Planner { items, floats } => self.planner(*items as usize, *floats as usize),
-            Command::Areas { n } => self.areas(*n as usize),
+            Command::Areas { areas, sums } => self.areas(*areas as usize, *sums as usize),
             Command::View { column, row } => self.view(*column, *row),
             Command::Program { bytes } => {
                 let written = program(bytes);
@@ -197,13 +197,16 @@ impl Machine {
         Answer::new(figures, 2).and(&[digest_bytes(&items), digest_floats(&floats)])
     }
 
-    /// The total stands in two's complement. The digest is that of the whole output,
+    /// The total stands in two's complement. The digests are those of the whole outputs,
     /// also if the call is refused.
-    fn areas(&self, n: usize) -> Answer {
-        let mut output = vec![AREA_BEFORE; n];
-        let outcome = areas(self.w, self.h, &self.bitmap, &self.table, &mut output);
-        let figures = outcome.map(|done| vec![done.contours as u64, done.total as u64]);
-        Answer::new(figures, 2).and(&[digest_areas(&output)])
+    fn areas(&self, contours: usize, edges: usize) -> Answer {
+        let mut of_contours = vec![SIGNED_BEFORE; contours];
+        let mut sums = vec![SIGNED_BEFORE; edges];
+        let (bitmap, table) = (&self.bitmap, &self.table);
+        let outcome = areas(self.w, self.h, bitmap, table, &mut of_contours, &mut sums);
+        let figures =
+            outcome.map(|done| vec![done.contours as u64, done.edges as u64, done.total as u64]);
+        Answer::new(figures, 3).and(&[digest_signed(&of_contours), digest_signed(&sums)])
     }
 
     fn view(&self, column: u16, row: u16) -> Answer {

@@ -43,6 +43,8 @@ mod sheet;
 mod show;
 mod simplify;
 mod smooth;
+mod sums_cases;
+mod sums_checks;
 mod test;
 mod trace;
 

@@ -139,6 +139,32 @@ fn sheet_of(layer: &Layer, contours: &[Contour], parted: &Parted) -> Vec<u8> {
     sheet
 }
 
+/// Calls that only look at vertices, some of which are refused by 14 or 15, on a table
+/// without pins and its layer's so many contours.
+fn looking(plain: &[u16], contours: usize) -> Vec<Command> {
+    let kept = plain.iter().filter(|&&entry| entry != 0 && entry < 256);
+    let (n, edges) = (contours as u32, kept.count() as u32);
+    let (items, floats) = (edges + n, 2 * edges);
+    let measured = |areas, sums| Command::Areas { areas, sums };
+    let mut calls = vec![
+        Command::Counts,
+        measured(n, edges),
+        measured(n - 1, edges),
+        measured(n, edges - 1),
+        Command::Planner { items, floats },
+        Command::Planner {
+            items: items - 1,
+            floats,
+        },
+        Command::Smooth { limit: 0 },
+    ];
+    if plain.iter().any(|&entry| entry > 255) {
+        calls.push(Command::Smooth { limit: 4 });
+        calls.push(Command::Simplify { t: 255 });
+    }
+    calls
+}
+
 /// A pinned vertex "is a kept one": calls that only look at vertices answer as without pins,
 /// also with 14 and 15, and a sheet differs in its letters.
 fn as_kept(wrong: &mut Wrong, b: &mut Builder) {
@@ -148,30 +174,8 @@ fn as_kept(wrong: &mut Wrong, b: &mut Builder) {
         let contours = contours(&layer);
         let parted = Parted::new(&b.machine.table);
         let plain = on(&b.machine, &parted.plain);
-        let kept = plain
-            .table
-            .iter()
-            .filter(|&&entry| entry != 0 && entry < 256);
-        let floats = 2 * kept.count() as u32;
-        let n = contours.len() as u32;
-        let items = floats / 2 + n;
-        let mut calls = vec![
-            Command::Counts,
-            Command::Areas { n },
-            Command::Areas { n: n - 1 },
-            Command::Planner { items, floats },
-            Command::Planner {
-                items: items - 1,
-                floats,
-            },
-            Command::Smooth { limit: 0 },
-        ];
-        if plain.table.iter().any(|&entry| entry > 255) {
-            calls.push(Command::Smooth { limit: 4 });
-            calls.push(Command::Simplify { t: 255 });
-        }
         let mut right = b.sheet() == sheet_of(&layer, &contours, &parted);
-        for command in &calls {
+        for command in &looking(&plain.table, contours.len()) {
             let (answer, table) = outcome(&plain, command);
             *refused.entry(answer[0]).or_insert(0) += 1;
             right &= outcome(&b.machine, command) == (answer, parted.with_pins(&table));

@@ -2,7 +2,7 @@
 // how a script is taken apart.
 
 /// The longest bitmap and table that a script may set, and the longest output
-/// (in bytes, items, floats or areas) that it may lend.
+/// (in bytes, items, floats, areas or sums) that it may lend.
 const BITMAP_LIMIT: usize = 131_200;
 const TABLE_LIMIT: usize = 2_095_200;
 const OUTPUT_LIMIT: usize = 8_388_608;
@@ -21,7 +21,7 @@ pub enum Command {
     WriteSheet { n: u32 },
     ReadSheet { bytes: Vec<u8> },
     Planner { items: u32, floats: u32 },
-    Areas { n: u32 },
+    Areas { areas: u32, sums: u32 },
     View { column: u16, row: u16 },
     Program { bytes: Vec<u8> },
 }
@@ -76,11 +76,12 @@ impl Command {
             Command::Smooth { limit } => limit.to_le_bytes().to_vec(),
             Command::Simplify { t } => vec![*t],
             Command::Roll { t, bytes } => [vec![*t], counted(bytes)].concat(),
-            Command::WriteSheet { n } | Command::Areas { n } => n.to_le_bytes().to_vec(),
+            Command::WriteSheet { n } => n.to_le_bytes().to_vec(),
             Command::ReadSheet { bytes } | Command::Program { bytes } => counted(bytes),
             Command::Planner { items, floats } => {
                 [items.to_le_bytes(), floats.to_le_bytes()].concat()
             }
+            Command::Areas { areas, sums } => [areas.to_le_bytes(), sums.to_le_bytes()].concat(),
             Command::View { column, row } => [column.to_le_bytes(), row.to_le_bytes()].concat(),
         };
         [vec![self.letter()], fields].concat()
@@ -175,7 +176,10 @@ impl<'a> Source<'a> {
                 let (items, floats) = (self.length(OUTPUT_LIMIT)?, self.length(OUTPUT_LIMIT)?);
                 Ok(Command::Planner { items, floats })
             }
-            b'A' => self.length(OUTPUT_LIMIT).map(|n| Command::Areas { n }),
+            b'A' => {
+                let (areas, sums) = (self.length(OUTPUT_LIMIT)?, self.length(OUTPUT_LIMIT)?);
+                Ok(Command::Areas { areas, sums })
+            }
             b'V' => {
                 let (column, row) = (self.u16()?, self.u16()?);
                 Ok(Command::View { column, row })

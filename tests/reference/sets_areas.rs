@@ -1,26 +1,40 @@
-// Vectors of Note 6, "metal per contour": the cases of areas_cases.rs, layers as every
-// call leaves them, with outputs that are long enough and too short, and one of the
-// largest layers. That they show what they are there for is asked in areas_checks.rs.
+// Vectors of Notes 6 and 7, "metal per contour" and "area by stick number": the cases of
+// areas_cases.rs and sums_cases.rs, layers as every call leaves them, with outputs that are
+// long enough and too short, contours side by side, and one of the largest layers. That they
+// show what they are there for is asked in areas_checks.rs and sums_checks.rs.
 
-use crate::areas_cases::cases;
+use crate::areas_cases::{self, Case};
 use crate::builder::Builder;
 use crate::contour::contours;
+use crate::hold::is_kept;
 use crate::layer::Layer;
 use crate::picture;
 use crate::refusals::{ask_1_to_7, plain};
 use crate::script::Command;
 use crate::sets_pins::{edit_or_pin, LIMITS, TOLERANCES};
 use crate::sets_table::random_roll;
+use crate::sums_cases;
 
-fn worked_out(b: &mut Builder) {
-    for case in cases() {
+/// A call with outputs of so many areas and so many sums.
+fn within(areas: usize, sums: usize) -> Command {
+    let [areas, sums] = [areas, sums].map(|n| n as u32);
+    Command::Areas { areas, sums }
+}
+
+fn worked_out(b: &mut Builder, cases: &[Case]) {
+    for case in cases {
         b.traced(&case.layer);
         for &(number, entry) in &case.entries {
             b.poke(number, entry);
         }
-        b.add(Command::Areas { n: case.n as u32 });
+        b.add(within(case.room[0], case.room[1]));
     }
 }
+
+/// The most areas and the most sums that these vectors lend room for, as many as the program
+/// that they are run by has.
+pub const MOST_AREAS: usize = 1024;
+pub const MOST_SUMS: usize = 4096;
 
 /// How many states there are.
 pub const STATES: usize = 6;
@@ -56,15 +70,25 @@ pub fn bring_into(b: &mut Builder, layer: &Layer, state: usize) {
     }
 }
 
-/// Areas of the layer that is set, into outputs that are exactly long enough, one shorter,
-/// longer, and of any length.
+/// How many contours and drawn edges the layer that is set has; as many edges as vertices
+/// are kept.
+fn counted(b: &Builder) -> (usize, usize) {
+    let table = b.machine.table.iter();
+    let kept = table.filter(|&&entry| is_kept(entry)).count();
+    (contours(&b.current()).len(), kept)
+}
+
+/// Areas and sums of the layer that is set, into outputs that are exactly long enough, one of
+/// them one shorter, both longer, and one as much longer as the other is shorter.
 fn measured(b: &mut Builder) {
-    let exact = contours(&b.current()).len() as u32;
-    let longer = exact + b.rng.between(1, 9) as u32;
-    let any = b.rng.below(2 * exact as usize + 1) as u32;
-    for n in [exact, exact.saturating_sub(1), longer, any] {
-        b.add(Command::Areas { n });
-    }
+    let (exact, edges) = counted(b);
+    let more = b.rng.between(1, 9);
+    let any = b.rng.below(2 * exact + 1);
+    b.add(within(exact, edges));
+    b.add(within(exact.saturating_sub(1), edges));
+    b.add(within(exact, edges.saturating_sub(1)));
+    b.add(within(exact + more, edges + more));
+    b.add(within(any, (edges + exact).saturating_sub(any)));
 }
 
 /// Random layers, and contours within contours, each in two states.
@@ -99,18 +123,45 @@ fn wide_and_high(b: &mut Builder) {
 /// As many contours one in the other as a layer can have, among them the largest there is.
 fn squares(b: &mut Builder) {
     b.traced(&picture::frames(1024, 1024));
-    b.add(Command::Areas { n: 510 });
-    b.add(Command::Areas { n: 511 });
+    b.add(within(510, MOST_SUMS));
+    b.add(within(511, MOST_SUMS));
     b.add(Command::Simplify { t: 255 });
-    b.add(Command::Areas { n: 600 });
+    let (exact, edges) = counted(b);
+    b.add(within(exact, edges));
+    b.add(within(exact, edges - 1));
+    b.add(within(600, MOST_SUMS));
+}
+
+/// Contours side by side, so that in each row of edges they come by turns: as traced, and
+/// with vertices slid, removed and pinned.
+fn by_turns(b: &mut Builder) {
+    let noise = picture::random(&mut b.rng, 24, 9, 5);
+    let layers = [
+        picture::lattice(9, 5),
+        picture::holes(17, 12),
+        picture::checkerboard(16, 10, 1),
+        picture::frames(20, 17),
+        noise,
+    ];
+    for layer in layers {
+        b.traced(&layer);
+        measured(b);
+        b.jitter(8);
+        b.remove_firsts(3);
+        b.thin(20);
+        b.pin(4);
+        measured(b);
+    }
 }
 
 /// Areas: B, M, P, T, S, Y, R and A only.
 pub fn areas(b: &mut Builder) {
-    ask_1_to_7(b, &plain(Command::Areas { n: 40 }));
-    ask_1_to_7(b, &plain(Command::Areas { n: 0 }));
-    worked_out(b);
+    ask_1_to_7(b, &plain(within(40, 400)));
+    ask_1_to_7(b, &plain(within(0, 0)));
+    worked_out(b, &areas_cases::cases());
     in_states(b);
     wide_and_high(b);
     squares(b);
+    worked_out(b, &sums_cases::cases());
+    by_turns(b);
 }

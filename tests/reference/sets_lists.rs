@@ -89,7 +89,10 @@ fn every_call(b: &mut Builder, layer: &Layer) {
         items,
         floats: items,
     });
-    b.add(Command::Areas { n: items });
+    b.add(Command::Areas {
+        areas: items,
+        sums: items,
+    });
     b.table(layer.edge_count());
     b.add(Command::ReadSheet { bytes });
 }
@@ -101,7 +104,10 @@ fn list_and_areas(b: &mut Builder) {
         items,
         floats: items,
     });
-    b.add(Command::Areas { n: 512 });
+    b.add(Command::Areas {
+        areas: 512,
+        sums: items,
+    });
 }
 
 /// As many contours one in the other as a layer can have, with first vertices removed, and simplified.

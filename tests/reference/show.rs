@@ -91,7 +91,9 @@ fn command(command: &Command) -> String {
                 items, floats
             )
         }
-        Command::Areas { n } => format!("areas into {} numbers\n", n),
+        Command::Areas { areas, sums } => {
+            format!("areas into {} numbers, sums into {}\n", areas, sums)
+        }
         Command::View { column, row } => format!("view of column {}, row {}\n", column, row),
         Command::Program { bytes } => {
             format!("layer program on {} bytes\n", bytes.len()) + &hex(bytes)

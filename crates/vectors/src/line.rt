@@ -15,9 +15,9 @@ fn figures(letter: u8) -> usize {
         b'W' => 1,
         b'Y' => 2,
         b'L' => 2,
-        b'A' => 2,
         b'N' => 3,
         b'S' => 3,
+        b'A' => 3,
         _ => 0,
     }
 }

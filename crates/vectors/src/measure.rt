@@ -1,13 +1,15 @@
-// The call that measures contours, A. Its output has a pattern before the call, and the digest of the whole output is among the figures, also of a
-// refused call.
+// The call that measures contours, A. Its two outputs have a pattern before the call, and the digest of each whole output is among the figures,
+// also of a refused call.
 use super::digest::digest_signed;
 use super::line;
 use super::state::State;
 
-// The longest output of areas.
+// The longest output of areas, and the longest of sums.
 const AREAS_LIMIT: usize = 1024;
 
-// What an output of areas has before the call.
+const SUMS_LIMIT: usize = 4096;
+
+// What an output of signed numbers has before the call.
 fn unset() -> i64 {
     -1
 }
@@ -22,12 +24,38 @@ fn areas_in(bitmap: &[u8], table: &[u16], areas: &mut [i64], state: State) -> bo
     if n > areas.len() {
         return false;
     }
-    measure(bitmap, table, &mut areas[0..n], state)
+    sums_call(bitmap, table, &mut areas[0..n], state)
 }
 
-fn measure(bitmap: &[u8], table: &[u16], output: &mut [i64], state: State) -> bool {
-    let measured = area::areas(state.w, state.h, bitmap, table, output);
+fn sums_call(bitmap: &[u8], table: &[u16], areas: &mut [i64], state: State) -> bool {
+    let mut sums = [unset(); SUMS_LIMIT];
+    sums_in(bitmap, table, areas, &mut sums, state)
+}
+
+fn sums_in(
+    bitmap: &[u8],
+    table: &[u16],
+    areas: &mut [i64],
+    sums: &mut [i64],
+    state: State,
+) -> bool {
+    let m = state.second;
+    if m > sums.len() {
+        return false;
+    }
+    measure(bitmap, table, areas, &mut sums[0..m], state)
+}
+
+fn measure(
+    bitmap: &[u8],
+    table: &[u16],
+    areas: &mut [i64],
+    sums: &mut [i64],
+    state: State,
+) -> bool {
+    let measured = area::areas(state.w, state.h, bitmap, table, areas, sums);
     let right = line::begin(state.letter, report::measured_report(measured));
-    line::put(digest_signed(output));
+    line::put(digest_signed(areas));
+    line::put(digest_signed(sums));
     right
 }

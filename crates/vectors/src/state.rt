@@ -53,6 +53,7 @@ fn second_width(letter: u8) -> usize
         b'M' => 2,
         b'P' => 2,
         b'L' => 4,
+        b'A' => 4,
         _ => 0,
     }
 }
