@@ -248,20 +248,25 @@ struct Simplifier {
     }
 };
 
-// Twice the signed area of a held contour: of each drawn edge its start's x times its end's y, less its end's x times its start's y.
-int64_t twice_area(const Contour &contour, const uint16_t *table) {
-    auto product = [](Point p, Point q) { return p.x * q.y - q.x * p.y; };
-    Point first = {}, last = {};
+size_t kept_in(const uint16_t *table, size_t entries) { return std::count_if(table, table + entries, is_kept); }
+
+// Twice the signed area of a held contour: of each drawn edge its start's x times its end's y, less its end's x times its start's y. What an
+// edge adds is noted by the number of the stick that it starts from.
+int64_t twice_area(const Contour &contour, const uint16_t *table, std::vector<int64_t> &adds) {
+    const Stick *first = nullptr, *last = nullptr;
     int64_t sum = 0;
-    bool begun = false;
+    auto add_edge = [&](const Stick &from, const Stick &to) {
+        Point p = vertex(from, table[from.number]), q = vertex(to, table[to.number]);
+        sum += adds[from.number] = p.x * q.y - q.x * p.y;
+    };
     for (const Stick &stick : contour)
         if (is_kept(table[stick.number])) {
-            Point p = vertex(stick, table[stick.number]);
-            if (begun) sum += product(last, p);
-            else first = p, begun = true;
-            last = p;
+            if (last) add_edge(*last, stick);
+            else first = &stick;
+            last = &stick;
         }
-    return sum + product(last, first);
+    add_edge(*last, *first);
+    return sum;
 }
 
 // A contour of the layer, and where each stick stands on it.
@@ -498,8 +503,7 @@ uint32_t plan(uint16_t w, uint16_t h, const uint8_t *bitmap, size_t bytes, const
     std::vector<Contour> contours;
     Refusal refusal = ask_1_to_7(layer, bytes, table, entries, contours);
     if (refusal.number) return answer(figures, refusal);
-    size_t kept = 0;
-    for (size_t n = 0; n < entries; n++) kept += is_kept(table[n]);
+    size_t kept = kept_in(table, entries);
     if (item_count < kept + contours.size() || float_count < 2 * kept) return answer(figures, {14, 0});
     for (uint32_t k : by_depth(layer, contours)) {
         bool moved = false;
@@ -515,15 +519,19 @@ uint32_t plan(uint16_t w, uint16_t h, const uint8_t *bitmap, size_t bytes, const
 }
 
 uint32_t areas(uint16_t w, uint16_t h, const uint8_t *bitmap, size_t bytes, const uint16_t *table, size_t entries, int64_t *areas, size_t area_count,
-               uint64_t *figures) {
+               int64_t *sums, size_t sum_count, uint64_t *figures) {
     Layer layer = layer_of(w, h, bitmap);
     std::vector<Contour> contours;
     Refusal refusal = ask_1_to_7(layer, bytes, table, entries, contours);
     if (refusal.number) return answer(figures, refusal);
-    if (area_count < contours.size()) return answer(figures, {14, 0});
-    int64_t total = 0;
-    for (const Contour &contour : contours) total += *areas++ = twice_area(contour, table);
-    return answer(figures, YES, contours.size(), total);
+    size_t kept = kept_in(table, entries);
+    if (area_count < contours.size() || sum_count < kept) return answer(figures, {14, 0});
+    std::vector<int64_t> adds(entries);
+    for (const Contour &contour : contours) *areas++ = twice_area(contour, table, adds);
+    int64_t sum = 0;
+    for (size_t n = 0; n < entries; n++)
+        if (is_kept(table[n])) *sums++ = sum += adds[n];
+    return answer(figures, YES, contours.size(), kept, sum);
 }
 
 std::vector<uint8_t> accepted(uint16_t w, uint16_t h, const uint8_t *bitmap, uint16_t *table, const std::vector<uint8_t> &roll, uint8_t t) {

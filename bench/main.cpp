@@ -36,12 +36,12 @@ struct Buffers {
     std::vector<uint16_t> table;
     std::vector<uint8_t> bytes;
     std::vector<double> floats;
-    std::vector<int64_t> areas;
+    std::vector<int64_t> areas, sums;
     uint64_t figures[4] = {};
     uint32_t number = 0;
     bool operator==(const Buffers &o) const {
-        return table == o.table && bytes == o.bytes && floats == o.floats && areas == o.areas && number == o.number &&
-               !memcmp(figures, o.figures, sizeof figures);
+        return table == o.table && bytes == o.bytes && floats == o.floats && areas == o.areas && sums == o.sums &&
+               number == o.number && !memcmp(figures, o.figures, sizeof figures);
     }
 };
 
@@ -129,8 +129,10 @@ static void measure(const Layer &layer, size_t edits) {
             [&](Buffers &b) { b.number = baseline::plan(LAYER, TABLE, b.bytes.data(), b.bytes.size(), b.floats.data(), b.floats.size(), b.figures); });
     Buffers measured = simplified;
     measured.areas.assign(layer.entries() / 4, 1);
-    compare(layer, "areas", measured, [&](Buffers &b) { b.number = pz_areas(LAYER, TABLE, b.areas.data(), b.areas.size(), b.figures, 4); },
-            [&](Buffers &b) { b.number = baseline::areas(LAYER, TABLE, b.areas.data(), b.areas.size(), b.figures); });
+    measured.sums.assign(layer.entries(), 1);
+    compare(layer, "areas", measured,
+            [&](Buffers &b) { b.number = pz_areas(LAYER, TABLE, b.areas.data(), b.areas.size(), b.sums.data(), b.sums.size(), b.figures, 4); },
+            [&](Buffers &b) { b.number = baseline::areas(LAYER, TABLE, b.areas.data(), b.areas.size(), b.sums.data(), b.sums.size(), b.figures); });
 }
 
 int main() {

@@ -101,14 +101,19 @@ uint32_t pz_read_sheet(uint16_t w, uint16_t h, const uint8_t *bitmap, size_t bit
 uint32_t pz_plan(uint16_t w, uint16_t h, const uint8_t *bitmap, size_t bitmap_len, const uint16_t *table, size_t table_len,
                  uint8_t *items, size_t items_len, double *points, size_t points_len, uint64_t *figures, size_t figures_len);
 
-/* Writes a number for each contour, in the order of the sheet, which is not that of the planner's list: twice its signed area in 1/65536 of a
- * square pitch, so that a square of one pitch by one pitch is 131072. It is the sum over the contour's drawn edges, in 1/256 of the pitch, of
- * start x * end y - end x * start y; a drawn edge joins two kept vertices, pinned or not, with only removed ones between. The number of an
- * outline, which winds around the inside ends of its sticks, is above 0, that of a bore, which winds around the outside ends, below 0. The
- * total is the sum over all contours, above 0 if there are any; as a figure it is signed, in two's complement: (int64_t)figures[2]. figures:
- * place, contours, total */
+/* Writes to areas a number for each contour, in the order of the sheet, which is not that of the planner's list: twice its signed area in
+ * 1/65536 of a square pitch, so that a square of one pitch by one pitch is 131072. It is the sum over the contour's drawn edges, in 1/256 of the
+ * pitch, of start x * end y - end x * start y; a drawn edge joins two kept vertices, pinned or not, with only removed ones between. The number
+ * of an outline, which winds around the inside ends of its sticks, is above 0, that of a bore, which winds around the outside ends, below 0.
+ *
+ * Writes to sums a number for each drawn edge, in the order of the entry of the stick that it starts from: what the drawn edges up to and with
+ * this one add, whatever their contours. A drawn edge starts from each kept vertex, so there are as many as kept entries. On the way a sum may
+ * be below 0 or above the last.
+ *
+ * The total is the last of the sums, 0 if there is none, and the sum of the areas. It is above 0 if there is a contour. As a figure it is
+ * signed, in two's complement: (int64_t)figures[3]. figures: place, contours, drawn edges, total */
 uint32_t pz_areas(uint16_t w, uint16_t h, const uint8_t *bitmap, size_t bitmap_len, const uint16_t *table, size_t table_len,
-                  int64_t *areas, size_t areas_len, uint64_t *figures, size_t figures_len);
+                  int64_t *areas, size_t areas_len, int64_t *sums, size_t sums_len, uint64_t *figures, size_t figures_len);
 
 /* One sample, 1 if inside; off the grid it is outside. figures: place, sample */
 uint32_t pz_sample(uint16_t w, uint16_t h, const uint8_t *bitmap, size_t bitmap_len, uint16_t column, uint16_t row,

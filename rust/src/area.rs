@@ -1,7 +1,7 @@
-//! The areas that contours enclose. The library gives them as whole numbers, so that they are exact; here is what those mean in square samples,
-//! and of the contour.
+//! The areas that contours enclose, and how the total grows from stick to stick. The library gives them as whole numbers, so that they are
+//! exact; here is what those mean in square samples, of the contour and of the stick.
 
-use crate::Kind;
+use crate::{Kind, Vertex};
 
 /// The number of a square of one pitch by one pitch.
 const SQUARE_SAMPLE: f64 = 131_072.0;
@@ -15,12 +15,31 @@ pub struct Area(pub i64);
 pub struct Areas {
     /// The area of each contour, in the order of the sheet.
     pub contours: Vec<Area>,
-    /// Their sum.
+    /// The sum after each drawn edge, by the number of the stick that it starts from, whatever its contour. The last is the total.
+    pub sums: Vec<Sum>,
+    /// The sum over all contours, which is that over all drawn edges.
     pub total: Area,
 }
 
+/// How far the area has grown when the drawn edge that starts from this stick is added. On the way from stick to stick it may be below 0 or
+/// above the total.
+#[derive(Clone, Copy, Debug, PartialEq, Eq, Hash)]
+pub struct Sum {
+    /// The number of the stick: its entry in the table, and what [`Layer::edge`](crate::Layer::edge) takes.
+    pub stick: usize,
+    /// The sum after its edge.
+    pub after: Area,
+}
+
+/// The sticks that drawn edges start from, in the order of their numbers: those with a kept vertex. The library sums in this order and says how
+/// many there are. Which they are is read off the table here, by code that is not proved.
+pub(crate) fn starts(table: &[u16]) -> impl Iterator<Item = usize> + '_ {
+    let is_kept = |entry: u16| Vertex::of(entry).map_or(false, |vertex| vertex.is_kept());
+    table.iter().enumerate().filter(move |(_, entry)| is_kept(**entry)).map(|(number, _)| number)
+}
+
 impl Area {
-    /// The area in square samples. It is exact below 2⁵³, as the areas of every layer are.
+    /// The area in square samples. It is exact below 2⁵³, as the areas and sums of every layer are.
     ///
     /// ```
     /// # use puzhenim::Area;
@@ -48,6 +67,12 @@ impl Area {
 }
 
 impl Areas {
+    /// The numbers that the library gives for this table.
+    pub(crate) fn of(table: &[u16], contours: Vec<i64>, sums: Vec<i64>, total: Area) -> Areas {
+        let sums = starts(table).zip(sums).map(|(stick, after)| Sum { stick, after: Area(after) });
+        Areas { contours: contours.into_iter().map(Area).collect(), sums: sums.collect(), total }
+    }
+
     /// The areas of all outlines, or of all bores, summed up. The two sums make up the total.
     ///
     /// ```

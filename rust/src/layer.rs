@@ -1,6 +1,6 @@
 //! A layer and the calls on it.
 
-use crate::{raw, Area, Areas, Edge, List, Refusal, View};
+use crate::{area, raw, Area, Areas, Edge, List, Refusal, View};
 
 /// A sampled layer: columns and rows, 2 to 1,024 each, and the bitmap, (width + 7) / 8 bytes a row, row 0 the lowest. Sample (c, r) is
 /// bit c % 8, least significant first, of byte c / 8 of row r; 1 is inside. Any values may be put here: the calls ask whether they are
@@ -60,7 +60,9 @@ pub struct Planned {
 pub struct Measured {
     /// Contours, each with an area written.
     pub contours: u64,
-    /// The sum of their areas.
+    /// Drawn edges, each with a sum written.
+    pub edges: u64,
+    /// The sum of the areas, and the last of the sums.
     pub total: Area,
 }
 
@@ -295,31 +297,33 @@ impl<'a> Layer<'a> {
         Ok(List { items, points })
     }
 
-    /// Writes the area of each contour, in the order of the sheet, and answers how many there are and their sum. The numbers are those of
-    /// [`Area`], from the kept vertices: above 0 for an outline, below 0 for a bore. Numbers past them stay. Questions 1 to 7 and 14.
+    /// Writes the area of each contour, in the order of the sheet, and the sum after each drawn edge, in the order of the number of the stick
+    /// that it starts from; answers how many of both there are, and the total. The numbers are those of [`Area`], from the kept vertices: above
+    /// 0 for an outline, below 0 for a bore. Numbers past them stay. Questions 1 to 7 and 14.
     ///
     /// ```
     /// # use puzhenim::{Area, Layer, Measured, Refusal};
     /// let layer = Layer { width: 3, height: 3, bitmap: &[0, 2, 0] };
     /// let mut table = layer.new_table();
     /// layer.trace(&mut table)?;
-    /// let mut areas = [7; 2];
-    /// assert_eq!(layer.measure(&table, &mut areas)?, Measured { contours: 1, total: Area(65_536) });
-    /// assert_eq!(areas, [65_536, 7]);
-    /// assert_eq!(layer.measure(&table, &mut []), Err(Refusal::ShortOutput));
+    /// let (mut areas, mut sums) = ([7; 2], [7; 5]);
+    /// assert_eq!(layer.measure(&table, &mut areas, &mut sums)?, Measured { contours: 1, edges: 4, total: Area(65_536) });
+    /// assert_eq!((areas, sums), ([65_536, 7], [-49_152, 32_768, 49_152, 65_536, 7]));
+    /// assert_eq!(layer.measure(&table, &mut areas, &mut sums[..3]), Err(Refusal::ShortOutput));
     /// # Ok::<(), puzhenim::Refusal>(())
     /// ```
-    pub fn measure(&self, table: &[u16], areas: &mut [i64]) -> Result<Measured, Refusal> {
-        let [contours, total, _] = accepted(raw::areas(*self, table, areas))?;
+    pub fn measure(&self, table: &[u16], areas: &mut [i64], sums: &mut [i64]) -> Result<Measured, Refusal> {
+        let [contours, edges, total] = accepted(raw::areas(*self, table, areas, sums))?;
         // A figure that is signed stands in two's complement.
-        Ok(Measured { contours, total: Area(total as i64) })
+        Ok(Measured { contours, edges, total: Area(total as i64) })
     }
 
-    /// The areas as [`Layer::measure`] writes them, in a buffer of their own. `contours[i]` belongs to the contour that starts at
-    /// [`first_sticks()[i]`](Layer::first_sticks), which need not be contour i of the list: see [`Layer::list_order`].
+    /// The areas and the sums as [`Layer::measure`] writes them, in buffers of their own. `contours[i]` belongs to the contour that starts at
+    /// [`first_sticks()[i]`](Layer::first_sticks), which need not be contour i of the list: see [`Layer::list_order`]. Each of the `sums` has
+    /// its stick.
     ///
     /// ```
-    /// # use puzhenim::{Area, Kind, Layer};
+    /// # use puzhenim::{Area, Kind, Layer, Sum};
     /// // Eight samples around one that is outside.
     /// let layer = Layer { width: 5, height: 5, bitmap: &[0, 0b01110, 0b01010, 0b01110, 0] };
     /// let mut table = layer.new_table();
@@ -328,12 +332,15 @@ impl<'a> Layer<'a> {
     /// assert_eq!(areas.contours, [Area(1_114_112), Area(-65_536)]);
     /// assert_eq!((areas.contours[1].kind(), areas.contours[1].square_samples()), (Some(Kind::Bore), -0.5));
     /// assert_eq!(areas.total.square_samples(), 8.0);
+    /// assert_eq!(areas.sums[0], Sum { stick: 4, after: Area(-49_152) });
+    /// assert_eq!(areas.sums.last().map(|last| last.after), Some(areas.total));
     /// # Ok::<(), puzhenim::Refusal>(())
     /// ```
     pub fn areas(&self, table: &[u16]) -> Result<Areas, Refusal> {
-        let mut numbers = vec![0; self.counts(table)?.contours as usize];
-        let measured = self.measure(table, &mut numbers)?;
-        Ok(Areas { contours: numbers.into_iter().map(Area).collect(), total: measured.total })
+        let mut areas = vec![0; self.counts(table)?.contours as usize];
+        let mut sums = vec![0; area::starts(table).count()];
+        let measured = self.measure(table, &mut areas, &mut sums)?;
+        Ok(Areas::of(table, areas, sums, measured.total))
     }
 
     /// A view for reading many samples. Questions 1 to 4, once.

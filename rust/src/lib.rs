@@ -29,7 +29,7 @@ mod raw;
 mod refusal;
 mod view;
 
-pub use area::{Area, Areas};
+pub use area::{Area, Areas, Sum};
 pub use edge::{Edge, Vertex};
 pub use layer::{Counts, Layer, Measured, Planned, Simplified, Smoothed};
 pub use list::{Item, Kind, List};

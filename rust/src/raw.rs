@@ -126,6 +126,8 @@ extern "C" {
         table_len: usize,
         areas: *mut i64,
         areas_len: usize,
+        sums: *mut i64,
+        sums_len: usize,
         figures: *mut u64,
         figures_len: usize,
     ) -> u32;
@@ -184,9 +186,9 @@ pub fn plan(layer: Layer, table: &[u16], items: &mut [u8], points: &mut [f64]) -
     unsafe { answer!(pz_plan, layer, table.as_ptr(), table.len(), items.as_mut_ptr(), items.len(), points.as_mut_ptr(), points.len()) }
 }
 
-pub fn areas(layer: Layer, table: &[u16], areas: &mut [i64]) -> Answer {
-    // Sound: the bitmap and the table are shared slices that the call reads; the areas are lent exclusively.
-    unsafe { answer!(pz_areas, layer, table.as_ptr(), table.len(), areas.as_mut_ptr(), areas.len()) }
+pub fn areas(layer: Layer, table: &[u16], areas: &mut [i64], sums: &mut [i64]) -> Answer {
+    // Sound: as for plan.
+    unsafe { answer!(pz_areas, layer, table.as_ptr(), table.len(), areas.as_mut_ptr(), areas.len(), sums.as_mut_ptr(), sums.len()) }
 }
 
 pub fn sample(layer: Layer, column: u16, row: u16) -> Answer {

@@ -1,5 +1,6 @@
 //! The areas that contours enclose, by geometry: what a rectangle, a triangle and a quadrilateral with perpendicular diagonals have. Which contour
-//! is which, in the order of the sheet and in that of the list.
+//! is which, in the order of the sheet and in that of the list. The sums from stick to stick, by hand and against
+//! the list.
 
 use puzhenim::{Area, Areas, Edge, Kind, Layer, Measured, Refusal};
 
@@ -39,19 +40,87 @@ fn areas(layer: Layer, table: &[u16]) -> Areas {
     layer.areas(table).expect("the layer is held")
 }
 
-/// The numbers of the contours, if the total is their sum.
+/// The numbers of the contours, if the total is their sum and the last sum.
 fn numbers(layer: Layer, table: &[u16]) -> Vec<i64> {
     let areas = areas(layer, table);
     let numbers: Vec<i64> = areas.contours.iter().map(|area| area.0).collect();
     assert_eq!(areas.total, Area(numbers.iter().sum()));
+    assert_eq!(areas.total, areas.sums.last().map_or(Area(0), |last| last.after));
     numbers
+}
+
+/// The sticks of the sums, and the sums.
+fn sums(layer: Layer, table: &[u16]) -> Vec<(usize, i64)> {
+    areas(layer, table).sums.iter().map(|sum| (sum.stick, sum.after.0)).collect()
+}
+
+/// An eighth of a square sample: what a product is in if both points are in half pitches.
+const EIGHTH: i64 = 16_384;
+
+fn in_eighths(sums: &[(usize, i64)]) -> Vec<(usize, i64)> {
+    sums.iter().map(|(stick, eighths)| (*stick, eighths * EIGHTH)).collect()
+}
+
+#[test]
+fn a_traced_sample_from_stick_to_stick() {
+    // In half pitches the vertices are (1, 2) on stick 2, (3, 2) on 3, (2, 1) on 7 and (2, 3) on 10; the contour goes 2, 7, 3, 10.
+    // From 2 to 7 an edge adds 1 × 1 - 2 × 2 = -3, from 3 to 10 it adds 3 × 3 - 2 × 2 = 5, from 7 to 3 2 × 2 - 3 × 1 = 1, from 10 to 2
+    // 2 × 2 - 1 × 3 = 1.
+    let expected = in_eighths(&[(2, -3), (3, -3 + 5), (7, -3 + 5 + 1), (10, -3 + 5 + 1 + 1)]);
+    assert_eq!(expected, [(2, -49_152), (3, 32_768), (7, 49_152), (10, 65_536)]);
+    assert_eq!(sums(SINGLE, &traced(SINGLE)), expected);
+    // Pinned vertices are kept ones.
+    assert_eq!(sums(SINGLE, &with(SINGLE, &SINGLE_STICKS, &[640; 4])), expected);
+}
+
+#[test]
+fn a_ring_and_its_bore_from_stick_to_stick() {
+    // In half pitches the outline goes (1, 2), (2, 1), (4, 1), (6, 1), (7, 2), (7, 4), (7, 6), (6, 7), (4, 7), (2, 7), (1, 6), (1, 4), and the
+    // bore (3, 4), (4, 5), (5, 4), (4, 3). By the numbers of their sticks the edges add
+    let added = [
+        (4, -3), // from (1, 2)
+        (7, 14),
+        (8, -2),  // from (1, 4)
+        (9, -1),  // from (3, 4) on the bore
+        (10, -1), // from (5, 4) on the bore
+        (11, 14),
+        (12, -2),
+        (15, 13),
+        (21, -2), // from (2, 1)
+        (22, -2),
+        (23, 5),
+        (27, 7),  // from (4, 3) on the bore
+        (32, -9), // from (4, 5) on the bore
+        (36, 5),  // from (2, 7)
+        (37, 14),
+        (38, 14),
+    ];
+    let after = [-3, 11, 9, 8, 7, 21, 19, 32, 30, 28, 33, 40, 31, 36, 50, 64];
+    let running: Vec<i64> = (1..=added.len()).map(|count| added[..count].iter().map(|(_, eighths)| eighths).sum()).collect();
+    assert_eq!(running, after);
+    let expected: Vec<(usize, i64)> = added.iter().zip(after).map(|((stick, _), eighths)| (*stick, eighths)).collect();
+    assert_eq!(sums(RING, &traced(RING)), in_eighths(&expected));
+}
+
+#[test]
+fn removed_and_pinned_vertices_from_stick_to_stick() {
+    // In half pitches the bar's vertices are (1, 2), (2, 1), (4, 1), (6, 1), (7, 2), (6, 3), (4, 3), (2, 3). Without the third, wherever it last
+    // was, the edge from (2, 1) on stick 13 ends at (6, 1) and adds 2 - 6 = -4.
+    for removed in [257, 384, 511] {
+        let table = with(BAR, &BAR_STICKS, &[128, 128, removed, 128, 128, 128, 512 + 128, 128]);
+        assert_eq!(sums(BAR, &table), in_eighths(&[(4, -3), (7, 6), (13, 2), (15, 7), (18, 8), (19, 14), (20, 20)]));
+    }
+    // The four that are left go (1, 2), (4, 1), (7, 2), (4, 3).
+    let mut table = traced(BAR);
+    assert_eq!(BAR.simplify(&mut table, 86).unwrap().removed, 4);
+    assert_eq!(sums(BAR, &table), in_eighths(&[(4, -7), (7, 6), (14, 7), (19, 12)]));
 }
 
 #[test]
 fn a_traced_sample_encloses_half_a_square() {
-    let expected = Areas { contours: vec![Area(65_536)], total: Area(65_536) };
-    assert_eq!(areas(SINGLE, &traced(SINGLE)), expected);
-    assert_eq!(expected.total.square_samples(), 0.5);
+    let traced = areas(SINGLE, &traced(SINGLE));
+    assert_eq!((traced.contours, traced.total), (vec![Area(65_536)], Area(65_536)));
+    assert_eq!(traced.total.square_samples(), 0.5);
 }
 
 #[test]
@@ -114,7 +183,7 @@ fn an_edit_alters_the_area_of_its_contour_alone() {
 fn a_bore_is_below_0() {
     // A square of side 3 without four corners, each a triangle with legs of 1/2; the bore is a traced sample.
     let traced = areas(RING, &traced(RING));
-    assert_eq!(traced, Areas { contours: vec![Area(17 * HALF), Area(-HALF)], total: Area(16 * HALF) });
+    assert_eq!((&traced.contours[..], traced.total), (&[Area(17 * HALF), Area(-HALF)][..], Area(16 * HALF)));
     assert_eq!(traced.contours.iter().map(|area| area.square_samples()).collect::<Vec<f64>>(), [8.5, -0.5]);
     for (offsets, bore) in [([1, 1, 255, 255], -510 * 510), ([255, 255, 1, 1], -4), ([10, 200, 30, 7], -276 * 63)] {
         assert_eq!(numbers(RING, &with(RING, &BORE_STICKS, &offsets)), [17 * HALF, bore]);
@@ -164,15 +233,16 @@ fn first_sticks_are_those_of_the_sheet() {
 #[test]
 fn a_layer_without_contours() {
     assert_eq!(areas(EMPTY, &traced(EMPTY)), Areas::default());
-    assert_eq!(EMPTY.measure(&traced(EMPTY), &mut []), Ok(Measured { contours: 0, total: Area(0) }));
+    assert_eq!(EMPTY.measure(&traced(EMPTY), &mut [], &mut []), Ok(Measured { contours: 0, edges: 0, total: Area(0) }));
     assert_eq!((EMPTY.first_sticks(), EMPTY.list_order()), (Ok(vec![]), Ok(vec![])));
 }
 
 #[test]
-fn numbers_past_the_contours_stay() {
-    let mut lent = [7; 6];
-    assert_eq!(NESTED.measure(&traced(NESTED), &mut lent), Ok(Measured { contours: 4, total: Area(34 * HALF) }));
+fn numbers_past_the_answers_stay() {
+    let (mut lent, mut sums) = ([7; 6], [7; 42]);
+    assert_eq!(NESTED.measure(&traced(NESTED), &mut lent, &mut sums), Ok(Measured { contours: 4, edges: 40, total: Area(34 * HALF) }));
     assert_eq!(lent, [49 * HALF, -17 * HALF, HALF, HALF, 7, 7]);
+    assert_eq!(sums[39..], [34 * HALF, 7, 7]);
 }
 
 #[test]
@@ -224,11 +294,42 @@ fn a_traced_layer_by_its_samples() {
     }
 }
 
+type Point = (i64, i64);
+
+/// The edges of a polygon, x and y in samples: where each starts in 1/256 of the pitch, and what it adds.
+fn edges(points: &[(f64, f64)]) -> Vec<(Point, i64)> {
+    let fine: Vec<Point> = points.iter().map(|(x, y)| ((x * 256.0) as i64, (y * 256.0) as i64)).collect();
+    let after = fine.iter().cycle().skip(1);
+    fine.iter().zip(after).map(|(p, q)| (*p, p.0 * q.1 - q.0 * p.1)).collect()
+}
+
 /// Twice the signed area of a polygon, x and y in samples.
 fn doubled(points: &[(f64, f64)]) -> i64 {
-    let fine: Vec<(i64, i64)> = points.iter().map(|(x, y)| ((x * 256.0) as i64, (y * 256.0) as i64)).collect();
-    let after = fine.iter().cycle().skip(1);
-    fine.iter().zip(after).map(|(p, q)| p.0 * q.1 - q.0 * p.1).sum()
+    edges(points).iter().map(|(_, added)| added).sum()
+}
+
+/// The number of the stick that a point lies strictly inside.
+fn stick_at(layer: Layer, (x, y): Point) -> usize {
+    let (w, h) = (usize::from(layer.width), usize::from(layer.height));
+    let (column, row) = (x as usize / 256, y as usize / 256);
+    match x % 256 {
+        0 => (w - 1) * h + row * w + column,
+        _ => row * (w - 1) + column,
+    }
+}
+
+/// The sums by the list's polygons.
+fn listed_sums(layer: Layer, table: &[u16]) -> Vec<(usize, i64)> {
+    let contours = layer.list(table).unwrap().contours();
+    let mut edges: Vec<(usize, i64)> =
+        contours.iter().flat_map(|points| edges(points)).map(|(start, added)| (stick_at(layer, start), added)).collect();
+    edges.sort_unstable();
+    let mut sum = 0;
+    edges.iter_mut().for_each(|(_, number)| {
+        sum += *number;
+        *number = sum;
+    });
+    edges
 }
 
 #[test]
@@ -244,6 +345,7 @@ fn areas_are_those_of_the_list_and_tell_the_kinds() {
             let removed = tolerance.map_or(0, |tolerance| layer.simplify(&mut simplified, tolerance).unwrap().removed);
             assert_eq!(removed > 0, tolerance.is_some());
             let by_list: Vec<i64> = layer.list(&simplified).unwrap().contours().iter().map(|points| doubled(points)).collect();
+            assert_eq!(sums(layer, &simplified), listed_sums(layer, &simplified));
             let areas = areas(layer, &simplified);
             let listed: Vec<Area> = layer.list_order().unwrap().iter().map(|place| areas.contours[*place]).collect();
             assert_eq!(listed.iter().map(|area| area.0).collect::<Vec<i64>>(), by_list);
@@ -262,7 +364,7 @@ fn questions_are_put_in_their_order() {
     not_held[7] += 256;
     let mut wrong = not_held.clone();
     wrong[0] = 9;
-    // Of each, what later questions ask about is wrong too, with no room for an area.
+    // Of each, what later questions ask about is wrong too, with no room in the outputs.
     let cases: [(Layer, &[u16], Refusal); 8] = [
         (sides, &[9], Refusal::BadSides),
         (length, &[9], Refusal::BitmapLength),
@@ -274,19 +376,23 @@ fn questions_are_put_in_their_order() {
         (SINGLE, &traced(SINGLE), Refusal::ShortOutput),
     ];
     for (number, (layer, table, refusal)) in [1, 2, 3, 4, 5, 6, 7, 14].into_iter().zip(cases) {
-        assert_eq!((layer.measure(table, &mut []), refusal.number()), (Err(refusal), number));
-        let mut lent = [7; 4];
+        assert_eq!((layer.measure(table, &mut [], &mut []), refusal.number()), (Err(refusal), number));
+        let (mut areas, mut sums) = ([7; 4], [7; 9]);
         if number < 14 {
-            assert_eq!((layer.measure(table, &mut lent), layer.areas(table)), (Err(refusal), Err(refusal)));
+            assert_eq!((layer.measure(table, &mut areas, &mut sums), layer.areas(table)), (Err(refusal), Err(refusal)));
         }
-        assert_eq!(lent, [7; 4]);
+        assert_eq!((areas, sums), ([7; 4], [7; 9]));
     }
 }
 
 #[test]
-fn one_number_too_few_is_refused() {
-    let mut lent = [7; 3];
-    assert_eq!(NESTED.measure(&traced(NESTED), &mut lent), Err(Refusal::ShortOutput));
-    assert_eq!(lent, [7; 3]);
-    assert_eq!(NESTED.measure(&traced(NESTED), &mut [0; 4]).map(|measured| measured.contours), Ok(4));
+fn one_number_too_few_in_either_output_is_refused() {
+    let table = traced(NESTED);
+    for (contours, edges) in [(3, 40), (4, 39), (3, 39), (0, 40), (4, 0)] {
+        let (mut areas, mut sums) = (vec![7; contours], vec![7; edges]);
+        assert_eq!(NESTED.measure(&table, &mut areas, &mut sums), Err(Refusal::ShortOutput));
+        assert_eq!((areas, sums), (vec![7; contours], vec![7; edges]));
+    }
+    let measured = NESTED.measure(&table, &mut [0; 4], &mut [0; 40]);
+    assert_eq!(measured.map(|measured| (measured.contours, measured.edges)), Ok((4, 40)));
 }

@@ -19,7 +19,7 @@ fn absurd_sides_have_no_table() {
         assert_eq!(layer.sheet(&table), Err(Refusal::BadSides));
         assert_eq!(layer.read_sheet(&mut table, b""), Err(Refusal::BadSides));
         assert_eq!(layer.list(&table), Err(Refusal::BadSides));
-        assert_eq!(layer.measure(&table, &mut [0; 9]), Err(Refusal::BadSides));
+        assert_eq!(layer.measure(&table, &mut [0; 9], &mut [0; 9]), Err(Refusal::BadSides));
         assert_eq!(layer.areas(&table), Err(Refusal::BadSides));
         assert_eq!(layer.sample(65535, 65535), Err(Refusal::BadSides));
         assert_eq!(layer.view(), Err(Refusal::BadSides));
@@ -64,7 +64,7 @@ fn a_list_with_points_missing() {
 
 #[test]
 fn areas_that_no_layer_has() {
-    let areas = Areas { contours: [i64::MAX, 1, i64::MIN, -1, 0].map(Area).to_vec(), total: Area(-1) };
+    let areas = Areas { contours: [i64::MAX, 1, i64::MIN, -1, 0].map(Area).to_vec(), ..Areas::default() };
     assert_eq!((areas.sum_of(Kind::Outline), areas.sum_of(Kind::Bore)), (Area(i64::MAX), Area(i64::MIN)));
     assert_eq!(Area(i64::MIN).square_samples(), -(2.0_f64.powi(46)));
 }

@@ -351,6 +351,140 @@ fn a_layer_without_contours_has_no_area() {
     assert_eq!(legend(&text(&folder.get("empty.svg"))), ["inside sample", "outside sample"]);
 }
 
+/// What areas says of the sample's sheet, its last lines as check has them.
+const SAMPLE_AREAS: &str = "contours: 1, drawn edges: 4\n\
+                            contour    column     row    square samples    in 1/131072\n\
+                            outline         0       1          0.000031              4\n\
+                            total                              0.000031              4\n";
+
+/// In 1/256 of the pitch the vertices are (255, 256) on stick 2, (257, 256) on 3, (256, 255) on 7 and (256, 257) on 10. Their edges go to 7,
+/// 10, 3 and 2, and add 255² - 256², 257² - 256², 256² - 257 × 255 and 256² - 255 × 257.
+const SAMPLE_SUMS: &str = "2 0 0 1 -511\n3 0 1 1 2\n7 1 1 0 3\n10 1 1 1 4\n";
+
+#[test]
+fn areas_and_sums_by_sticks() {
+    let folder = Folder::new("sums");
+    let input = example("sample.layer");
+    folder.put("sheet", SHEET);
+    assert_eq!(folder.done(&["areas", &input, "sheet"]), SAMPLE_AREAS);
+    assert!(folder.done(&["check", &input, "sheet"]).ends_with(SAMPLE_AREAS.split_once('\n').unwrap().1));
+    assert_eq!(folder.done(&["areas", &input, "sheet", "--sums", "sums"]), SAMPLE_AREAS);
+    assert_eq!(text(&folder.get("sums")), SAMPLE_SUMS);
+    assert_eq!(folder.done(&["areas", &input, "sheet", "--sums=-"]), SAMPLE_SUMS);
+    assert_eq!(folder.done(&["areas", &input, "sheet", "--plot", "plot.svg"]), SAMPLE_AREAS);
+    let plot = text(&folder.get("plot.svg"));
+    assert_eq!(folder.done(&["areas", &input, "sheet", "--plot", "-"]), plot);
+    assert_eq!(folder.done(&["areas", &input, "sheet", "--sums", "again", "--plot", "-"]), plot);
+    assert_eq!(folder.done(&["areas", &input, "sheet", "--sums", "-", "--plot", "again.svg"]), SAMPLE_SUMS);
+    assert_eq!((folder.get("again"), folder.get("again.svg")), (folder.get("sums"), folder.get("plot.svg")));
+    // A pinned vertex is a kept one.
+    folder.put("pinned", PINNED);
+    assert_eq!(folder.done(&["areas", &input, "pinned", "--sums", "-"]), SAMPLE_SUMS);
+}
+
+#[test]
+fn refused_areas_write_nothing() {
+    let folder = Folder::new("refused-areas");
+    let input = example("sample.layer");
+    folder.put("sheet", SHEET);
+    folder.put("sums", b"old");
+    let words = folder.fails(2, &["areas", &input, "sheet", "--sums", "sums", "--plot", "sums"]);
+    assert_eq!(words, "puzhenim: areas wants two different files after --sums and --plot\nTry 'puzhenim --help'.\n");
+    folder.fails(2, &["areas", &input, "sheet", "--sums", "-", "--plot", "-"]);
+    folder.put("removed", &[&SHEET[..11], b"R", &SHEET[12..]].concat());
+    let words = folder.fails(1, &["areas", &input, "removed", "--sums", "sums", "--plot", "plot"]);
+    assert!(words.starts_with("puzhenim: removed: the layer is not held") && words.contains("(question 7)"));
+    folder.fails(1, &["areas", &input, "sheet", "--sums", "sums", "--plot", "none/plot"]);
+    folder.fails(1, &["areas", &input, "sheet", "--sums", "none/sums", "--plot", "plot"]);
+}
+
+/// The commands of the plot's curve, each a letter and a number but for the first.
+fn curve(plot: &str) -> String {
+    let path = plot.lines().find_map(|line| line.strip_prefix("<path class=\"line\" d=\"")?.strip_suffix("\"/>"));
+    path.unwrap().into()
+}
+
+/// The labels of the ticks along the axis of this class, and where they are by this attribute.
+fn ticks(plot: &str, class: &str, attribute: &str) -> Vec<(String, f64)> {
+    let begin = format!("<text class=\"{}\" ", class);
+    let tick = |line: &str| {
+        let (attributes, label) = line.strip_prefix(&begin)?.strip_suffix("</text>")?.split_once('>')?;
+        let place = attributes.split_once(&format!("{}=\"", attribute))?.1.split('"').next()?;
+        Some((label.to_string(), place.parse().ok()?))
+    };
+    plot.lines().filter_map(tick).collect()
+}
+
+#[test]
+fn plots_a_sample_by_steps() {
+    let folder = Folder::new("plot");
+    let input = example("sample.layer");
+    folder.done(&["slice", &input, "-o", "sheet", "--passes", "0", "--tolerance", "0"]);
+    let plot = folder.done(&["areas", &input, "sheet", "--plot", "-"]);
+    // Sticks are 80 pixels apart, and a square sample is 420 pixels. The sums are -0.375, 0.25, 0.375 and 0.5 square samples.
+    assert_eq!(curve(&plot), "M0 252H160V409.5H240V147H560V94.5H800V42H960");
+    let up: Vec<(String, f64)> = ["-0.4", "-0.2", "0.0", "0.2", "0.4", "0.6"]
+        .map(String::from)
+        .into_iter()
+        .zip((0..6).rev().map(|i| 84.0 * i as f64 + 4.5))
+        .collect();
+    assert_eq!(ticks(&plot, "up", "y"), up);
+    let across: Vec<(String, f64)> = (0..=6).map(|i| ((2 * i).to_string(), 160.0 * i as f64)).collect();
+    assert_eq!(ticks(&plot, "across", "x"), across);
+    assert!(
+        plot.contains("<path class=\"total\" d=\"M0 42h960\"/>")
+            && plot.contains(">stick number<")
+            && plot.contains(">area in square samples<")
+    );
+    assert!(plot.contains("<path class=\"dot\" stroke-width=\"5\" d=\"M160 409.5h0M240 147h0M560 94.5h0M800 42h0\"/>"));
+    assert!(plot.contains("3 × 3 samples; 1 contour, 4 drawn edges</text>"));
+    let expected = [
+        "sum after the drawn edge that starts from the stick",
+        "total 0.500000 square samples (65536 in 1/131072)",
+        "highest area 0.500000 (65536) after stick 10",
+        "lowest area -0.375000 (-49152) after stick 2",
+    ];
+    assert!(legend(&plot).ends_with(&expected), "{:?}", legend(&plot));
+}
+
+#[test]
+fn plots_a_layer_without_contours() {
+    let folder = Folder::new("flat");
+    folder.put("empty.pbm", b"P1 3 2 000 000");
+    folder.done(&["slice", "empty.pbm", "-o", "sheet"]);
+    let said = folder.done(&["areas", "empty.pbm", "sheet", "--sums", "sums", "--plot", "plot"]);
+    assert!(said.starts_with("contours: 0, drawn edges: 0\n"));
+    assert_eq!((area_lines(&said), folder.get("sums")), (vec![vec!["total", "0.000000", "0"]], vec![]));
+    let plot = text(&folder.get("plot"));
+    assert_eq!(curve(&plot), "M0 420H960");
+    assert!(plot.contains("0 contours, 0 drawn edges") && !plot.contains("after stick") && !plot.contains("NaN") && !plot.contains("inf"));
+}
+
+#[test]
+fn a_plot_of_many_edges_is_small_and_hides_none() {
+    let folder = Folder::new("many");
+    let rows: Vec<u8> = (0..1022_usize).flat_map(|row| [if row % 2 == 1 { 0x55 } else { 0xAA }; 128]).collect();
+    folder.put("many.pbm", &[b"P4 1022 1022 ", &rows[..]].concat());
+    folder.done(&["slice", "many.pbm", "--pad", "-o", "sheet", "--passes", "0", "--tolerance", "0"]);
+    folder.done(&["areas", "many.pbm", "--pad", "sheet", "--sums", "sums", "--plot", "plot"]);
+    let sums = text(&folder.get("sums"));
+    let numbers: Vec<i64> = sums.lines().map(|line| line.rsplit(' ').next().unwrap().parse().unwrap()).collect();
+    let plot = text(&folder.get("plot"));
+    assert!(numbers.len() > 2_000_000 && plot.len() < 200_000, "{} {}", numbers.len(), plot.len());
+    // Where the highest and the lowest sum are by the outermost ticks is where the curve comes.
+    let up = ticks(&plot, "up", "y");
+    let value = |label: &str| label.replace(',', "").parse::<f64>().unwrap();
+    let (low, high) = (value(&up[0].0), value(&up[up.len() - 1].0));
+    let place = |number: i64| 420.0 * (high - number as f64 / 131_072.0) / (high - low);
+    let curve = curve(&plot);
+    let heights: Vec<f64> = curve.split('V').skip(1).map(|rest| rest.split('H').next().unwrap().parse().unwrap()).collect();
+    let (top, bottom) = heights.iter().fold((420.0_f64, 0.0_f64), |(top, bottom), height| (top.min(*height), bottom.max(*height)));
+    assert!((top - place(*numbers.iter().max().unwrap())).abs() < 0.001);
+    assert!((bottom - place(numbers.iter().min().unwrap().min(&0).to_owned())).abs() < 0.001);
+    assert!(heights.len() > 1000 && curve.matches('H').count() <= 1921);
+    assert!(plot.contains("1092 sticks a column, from their lowest to their highest sum"));
+}
+
 #[test]
 fn the_largest_area_stays_in_its_column() {
     let folder = Folder::new("largest");
@@ -491,7 +625,7 @@ fn a_fine_grid_is_drawn_without_marks() {
 fn help_and_version() {
     let folder = Folder::new("help");
     let all = folder.done(&["--help"]);
-    for command in ["slice", "roll", "plan", "check", "draw"] {
+    for command in ["slice", "roll", "plan", "check", "areas", "draw"] {
         assert!(all.contains(&format!("puzhenim {} IN", command)));
         let help = folder.done(&[command, "--help"]);
         assert!(help.starts_with(&format!("puzhenim {} IN", command)));
@@ -500,6 +634,7 @@ fn help_and_version() {
     assert!(all.contains("(1 to 16)"));
     assert!(folder.done(&["roll", "--help"]).contains("P and a stick pin one"));
     assert!(folder.done(&["check", "--help"]).contains("in 1/131072 of a square sample"));
+    assert!(folder.done(&["areas", "--help"]).contains("the sum in 1/131072 of a square sample"));
     assert_eq!(folder.done(&["--version"]), format!("puzhenim {}\n", env!("CARGO_PKG_VERSION")));
 }
 

@@ -72,7 +72,7 @@ fn held() {
     assert_eq!(refusal, Refusal::NotHeld { stick: 2 });
     assert_eq!(refusal.to_string(), "the layer is not held: contour that starts at stick 2 (question 7)");
     assert_eq!(SINGLE.plan(&table, &mut [], &mut []), Err(refusal));
-    assert_eq!(SINGLE.measure(&table, &mut []), Err(refusal));
+    assert_eq!(SINGLE.measure(&table, &mut [], &mut []), Err(refusal));
 }
 
 #[test]
@@ -156,7 +156,7 @@ fn outputs() {
     assert_eq!(sheet, [7; 19]);
     assert_eq!(SINGLE.plan(&table, &mut [0; 4], &mut [0.0; 8]), Err(Refusal::ShortOutput));
     assert_eq!(SINGLE.plan(&table, &mut [0; 5], &mut [0.0; 7]), Err(Refusal::ShortOutput));
-    assert_eq!(SINGLE.measure(&table, &mut []), Err(Refusal::ShortOutput));
+    assert_eq!(SINGLE.measure(&table, &mut [], &mut []), Err(Refusal::ShortOutput));
 }
 
 #[test]

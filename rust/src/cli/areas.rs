@@ -1,11 +1,11 @@
 //! The areas of a layer's contours as lines for a person to read: what each contour is, where it starts and what it encloses. The total comes
-//! last, so that it is in sight however many contours there are.
+//! last, so that it is in sight however many contours there are. And the running sums as lines for a program.
 
-use puzhenim::{Area, Kind, Layer, Refusal};
+use puzhenim::{Area, Areas, Edge, Kind, Layer, Refusal, Sum};
 
 /// A head, a line for each contour and one for the total. The order has the contours by their places in the sheet.
-pub fn lines(layer: Layer, table: &[u16], order: impl IntoIterator<Item = usize>) -> Result<String, Refusal> {
-    let (areas, firsts) = (layer.areas(table)?, layer.first_sticks()?);
+pub fn lines(layer: Layer, areas: &Areas, order: impl IntoIterator<Item = usize>) -> Result<String, Refusal> {
+    let firsts = layer.first_sticks()?;
     let mut text = line("contour", ["column", "row", "square samples", "in 1/131072"]);
     for place in order {
         if let (Some(area), Some(first)) = (areas.contours.get(place), firsts.get(place)) {
@@ -14,6 +14,19 @@ pub fn lines(layer: Layer, table: &[u16], order: impl IntoIterator<Item = usize>
     }
     text += &area_line("total", ["", ""], areas.total);
     Ok(text)
+}
+
+/// The lines in the order of the sheet.
+pub fn sheet_lines(layer: Layer, areas: &Areas) -> Result<String, Refusal> {
+    lines(layer, areas, 0..areas.contours.len())
+}
+
+/// A line for each sum: number, kind, column and row of the stick, kind 0 being horizontal and 1 vertical, and the sum after its edge.
+pub fn sum_lines(layer: Layer, areas: &Areas) -> String {
+    let edges = areas.sums.iter().filter_map(|sum| layer.edge(sum.stick).map(|edge| (sum, edge)));
+    let line =
+        |(sum, edge): (&Sum, Edge)| format!("{} {} {} {} {}\n", sum.stick, u8::from(edge.vertical), edge.column, edge.row, sum.after.0);
+    edges.map(line).collect()
 }
 
 fn name(area: Area) -> &'static str {

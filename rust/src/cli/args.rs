@@ -80,6 +80,16 @@ impl Args {
         self.option(name).ok_or_else(|| self.usage(format!("wants {}", name)))
     }
 
+    /// Refuses one file for two outputs.
+    pub fn apart(&self, one: &str, other: &str) -> Result<(), Failure> {
+        match self.option(one) {
+            Some(file) if self.option(other) == Some(file) => {
+                Err(self.usage(format!("wants two different files after {} and {}", one, other)))
+            }
+            _ => Ok(()),
+        }
+    }
+
     /// The number that an option has, `otherwise` if it is not given.
     pub fn number<T: FromStr + Display>(&self, name: &str, most: T, otherwise: T) -> Result<T, Failure> {
         match self.option(name) {

@@ -7,10 +7,10 @@ use crate::files;
 use crate::help;
 use crate::job::Job;
 use crate::picture;
+use crate::plot;
 use crate::progress::Progress;
 use puzhenim::{Counts, Item, Kind, Layer, List, Refusal, Vertex};
 use std::ffi::OsStr;
-use std::path::Path;
 
 /// An option of a command.
 pub struct Opt {
@@ -31,16 +31,19 @@ const OUTPUT: Opt = Opt { name: "-o", has_value: true };
 const PASSES: Opt = Opt { name: "--passes", has_value: true };
 const TOLERANCE: Opt = Opt { name: "--tolerance", has_value: true };
 const BINARY: Opt = Opt { name: "--binary", has_value: true };
+const SUMS: Opt = Opt { name: "--sums", has_value: true };
+const PLOT: Opt = Opt { name: "--plot", has_value: true };
 const PAD: Opt = Opt { name: "--pad", has_value: false };
 
 const DEFAULT_PASSES: u16 = 100;
 const DEFAULT_TOLERANCE: u8 = 64;
 
-static COMMANDS: [Command; 5] = [
+static COMMANDS: [Command; 6] = [
     Command { name: "slice", operands: &["IN"], options: &[OUTPUT, PASSES, TOLERANCE, PAD], help: help::SLICE, run: slice },
     Command { name: "roll", operands: &["IN", "SHEET", "ROLL"], options: &[OUTPUT, TOLERANCE, PAD], help: help::ROLL, run: roll },
     Command { name: "plan", operands: &["IN", "SHEET"], options: &[OUTPUT, BINARY, PAD], help: help::PLAN, run: plan },
     Command { name: "check", operands: &["IN", "SHEET"], options: &[PAD], help: help::CHECK, run: check },
+    Command { name: "areas", operands: &["IN", "SHEET"], options: &[SUMS, PLOT, PAD], help: help::AREAS, run: areas },
     Command { name: "draw", operands: &["IN", "[SHEET]"], options: &[OUTPUT, PAD], help: help::DRAW, run: draw },
 ];
 
@@ -95,9 +98,7 @@ fn roll_refused(path: &OsStr, refusal: Refusal) -> Failure {
 fn plan(args: &Args) -> Result<(), Failure> {
     let output = args.required("-o")?;
     let points = args.option("--binary");
-    if points == Some(output) {
-        return Err(Failure::Usage("plan wants two different files with --binary".into()));
-    }
+    args.apart("-o", "--binary")?;
     let (progress, job) = (Progress::start(), Job::open(args)?);
     let table = job.read_sheet(&progress)?;
     progress.step("planning");
@@ -120,7 +121,7 @@ fn plan_figures(layer: Layer, table: &[u16]) -> Result<String, Refusal> {
     let kinds = layer.kinds()?;
     let outlines = kinds.iter().filter(|kind| **kind == Kind::Outline).count();
     let counted = format!("outlines: {}, bores: {}, each after those around it\n", outlines, kinds.len() - outlines);
-    Ok(counted + &areas::lines(layer, table, layer.list_order()?)?)
+    Ok(counted + &areas::lines(layer, &layer.areas(table)?, layer.list_order()?)?)
 }
 
 /// A line an item. A coordinate is a whole number of 1/256ths of at most 12 digits, so its shortest decimal is exact.
@@ -137,9 +138,10 @@ fn check(args: &Args) -> Result<(), Failure> {
     let (progress, job) = (Progress::start(), Job::open(args)?);
     let table = job.read_sheet(&progress)?;
     progress.step("counting");
-    let counts = job.layer().counts(&table).map_err(|refusal| job.refused(refusal))?;
-    let order_of_sheet = 0..counts.contours as usize;
-    let area_lines = areas::lines(job.layer(), &table, order_of_sheet).map_err(|refusal| job.refused(refusal))?;
+    let refused = |refusal| job.refused(refusal);
+    let counts = job.layer().counts(&table).map_err(refused)?;
+    let areas = job.layer().areas(&table).map_err(refused)?;
+    let area_lines = areas::sheet_lines(job.layer(), &areas).map_err(refused)?;
     drop(progress);
     let mut text = format!("The sheet is good for this layer of {} × {} samples.\n", job.layer().width, job.layer().height);
     for (name, figure) in figures(counts, &table) {
@@ -163,6 +165,26 @@ fn figures(counts: Counts, table: &[u16]) -> Vec<(&'static str, u64)> {
     figures
 }
 
+fn areas(args: &Args) -> Result<(), Failure> {
+    args.apart("--sums", "--plot")?;
+    let (progress, job) = (Progress::start(), Job::open(args)?);
+    let table = job.read_sheet(&progress)?;
+    progress.step("measuring");
+    let refused = |refusal| job.refused(refusal);
+    let areas = job.layer().areas(&table).map_err(refused)?;
+    let counted = format!("contours: {}, drawn edges: {}\n", areas.contours.len(), areas.sums.len());
+    let text = counted + &areas::sheet_lines(job.layer(), &areas).map_err(refused)?;
+    progress.step("writing");
+    let sums = args.option("--sums").map(|path| (path, areas::sum_lines(job.layer(), &areas)));
+    let plot = args.option("--plot").map(|path| (path, plot::draw(&job.name(), job.layer(), &areas)));
+    let written: Vec<(&OsStr, String)> = sums.into_iter().chain(plot).collect();
+    let outputs: Vec<(&OsStr, &[u8])> = written.iter().map(|(path, text)| (*path, text.as_bytes())).collect();
+    files::write(&outputs)?;
+    drop(progress);
+    let paths: Vec<&OsStr> = outputs.iter().map(|(path, _)| *path).collect();
+    report(&paths, &text)
+}
+
 fn draw(args: &Args) -> Result<(), Failure> {
     let output = args.required("-o")?;
     let (progress, job) = (Progress::start(), Job::open(args)?);
@@ -175,8 +197,7 @@ fn draw(args: &Args) -> Result<(), Failure> {
         }
     };
     progress.step("drawing");
-    let name = Path::new(job.operand(0)).file_name().unwrap_or_default().to_string_lossy();
-    let picture = picture::draw(&name, job.layer(), &table).map_err(|refusal| job.refused(refusal))?;
+    let picture = picture::draw(&job.name(), job.layer(), &table).map_err(|refusal| job.refused(refusal))?;
     files::write(&[(output, picture.as_bytes())])
 }
 

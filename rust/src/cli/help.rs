@@ -12,6 +12,7 @@ puzhenim: contours of a sampled layer, by a library that is proved correct
   puzhenim roll IN SHEET ROLL -o SHEET2   run an edit roll on a sheet
   puzhenim plan IN SHEET -o LIST          the planner's list of a sheet
   puzhenim check IN SHEET                 is the sheet good? figures and areas
+  puzhenim areas IN SHEET                 areas, and their growth by sticks
   puzhenim draw IN [SHEET] -o PICTURE     the layer and its contours as SVG
   puzhenim COMMAND --help                 more on a command
   puzhenim --version
@@ -92,6 +93,24 @@ sample is one pitch by one pitch. Outlines have areas above 0, bores below 0.
 The last line is the total, the sum over all contours.
 
   --pad   add an outside sample all round to a PBM
+";
+
+pub const AREAS: &str = "\
+puzhenim areas IN SHEET [--sums FILE] [--plot PICTURE] [--pad]
+
+Says how many contours and drawn edges the sheet has, the area of each contour
+and the total, as check does; nothing if an output is -.
+
+The total is also the sum over all drawn edges in the order of the number of the
+stick that each starts from. In 1/256 of the pitch, an edge adds its start's x
+times its end's y, less its end's x times its start's y; so on the way the sum
+may be below 0 or above the total.
+
+  --sums FILE      where the sum after each edge goes, a line each: the stick's
+                   number, kind (0 horizontal, 1 vertical), column and row, and
+                   the sum in 1/131072 of a square sample
+  --plot PICTURE   where a plot of these sums goes, as SVG
+  --pad            add an outside sample all round to a PBM
 ";
 
 pub const DRAW: &str = "\

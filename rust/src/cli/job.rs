@@ -7,6 +7,7 @@ use crate::input::Input;
 use crate::progress::Progress;
 use puzhenim::{Layer, Refusal};
 use std::ffi::OsStr;
+use std::path::Path;
 
 /// A command's operands, with the layer read.
 pub struct Job<'a> {
@@ -23,6 +24,11 @@ impl<'a> Job<'a> {
     /// An operand that the command always has.
     pub fn operand(&self, index: usize) -> &'a OsStr {
         self.args.operand(index).unwrap_or_default()
+    }
+
+    /// The layer's name, for pictures of it.
+    pub fn name(&self) -> String {
+        Path::new(self.operand(0)).file_name().unwrap_or_default().to_string_lossy().into()
     }
 
     pub fn layer(&self) -> Layer<'_> {

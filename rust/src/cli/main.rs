@@ -10,8 +10,11 @@ mod files;
 mod help;
 mod input;
 mod job;
+mod legend;
+mod page;
 mod pbm;
 mod picture;
+mod plot;
 mod progress;
 
 use failure::Failure;

@@ -1,11 +1,12 @@
 //! The layer and its contours as SVG. Shapes are in whole 1/256ths of the pitch, so that they are exact; one transform scales them.
 
+mod entries;
 mod frame;
-mod legend;
 mod shapes;
 
+use crate::legend::Legend;
+use crate::page::counted;
 use frame::Frame;
-use legend::Legend;
 use puzhenim::{Layer, Refusal};
 use shapes::Shapes;
 
@@ -25,9 +26,10 @@ pub fn draw(name: &str, layer: Layer, table: &[u16]) -> Result<String, Refusal> 
         of_these_pinned(shapes.pinned.len()),
         shapes.removed.len()
     );
-    let legend = Legend::of(&frame, &shapes, &layer.areas(table)?);
-    let body = shapes.draw(layer, &frame)?;
-    Ok(frame.page(name, &figures, &body, &legend))
+    let page = frame.page();
+    let legend = Legend::of(page.width, vec![entries::contours(&shapes, &layer.areas(table)?), entries::marks(&frame, &shapes)]);
+    let grid = frame.grid(&page, &shapes.draw(layer, &frame)?);
+    Ok(page.svg([name, &figures], &grid, frame.up(), &legend))
 }
 
 /// How many of the kept vertices are pinned, if any are.
@@ -36,8 +38,4 @@ fn of_these_pinned(count: usize) -> String {
         0 => String::new(),
         _ => format!(" ({} pinned)", count),
     }
-}
-
-fn counted(count: usize, name: &str) -> String {
-    format!("{} {}{}", count, name, if count == 1 { "" } else { "s" })
 }

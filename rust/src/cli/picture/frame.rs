@@ -1,6 +1,6 @@
-//! The page: how large a sample is drawn, what is marked, and where the parts stand.
+//! How large a sample is drawn, what is marked, and where the grid stands on the page.
 
-use super::legend::Legend;
+use crate::page::{round, Page, HEAD, MARGIN};
 use puzhenim::Layer;
 
 /// The grid's longer side in pixels, if the pitch is then within its bounds.
@@ -12,16 +12,11 @@ const COARSEST: f64 = 64.0;
 const SAMPLES_FROM: f64 = 8.0;
 const VERTICES_FROM: f64 = 4.0;
 
-const MARGIN: f64 = 16.0;
-const HEAD: f64 = 66.0;
 /// What the line of figures needs, and what the number of pinned vertices adds to it.
 const LEAST_WIDTH: f64 = 660.0;
 const PINNED_WIDTH: f64 = 120.0;
 
 const STYLE: &str = "\
-text{font-family:sans-serif;font-size:13px;fill:#333}
-.name{font-size:17px;font-weight:bold}
-.grid{fill:#fff;stroke:#ddd}
 .outline{fill:#e3ebf4;stroke:#1b5e9e;stroke-linejoin:round}
 .bore{fill:#fff;stroke:#c8501e;stroke-linejoin:round}
 .dot{fill:none;stroke-linecap:round}
@@ -34,15 +29,6 @@ text{font-family:sans-serif;font-size:13px;fill:#333}
 
 /// The style of the marks at pinned vertices, squares in place of round marks; it stands only in a picture of pinned vertices.
 const PINNED_STYLE: &str = ".pinned{stroke:#1d7a35;stroke-linecap:square}\n";
-
-/// The stroke of a mark of this class: a point. That of a square is a little longer, since not every program draws a square at a stroke that
-/// has no direction.
-pub fn stroke(class: &str) -> &'static str {
-    match class {
-        "pinned" => "h.1",
-        _ => "h0",
-    }
-}
 
 pub struct Frame {
     columns: f64,
@@ -86,40 +72,26 @@ impl Frame {
         round(pixels * 256.0 / self.scale)
     }
 
-    /// How wide the page is before the enlargement.
-    pub fn width(&self) -> f64 {
+    pub fn page(&self) -> Page {
         let least = if self.has_pinned { LEAST_WIDTH + PINNED_WIDTH } else { LEAST_WIDTH };
-        (self.columns * self.scale / self.unit).max(least) + 2.0 * MARGIN
+        let width = self.across().max(least) + 2.0 * MARGIN;
+        Page { width, unit: self.unit, style: [STYLE, if self.has_pinned { PINNED_STYLE } else { "" }].concat() }
     }
 
-    /// The whole picture. All lengths but the outermost are multiplied by the unit.
-    pub fn page(&self, name: &str, figures: &str, shapes: &str, legend: &Legend) -> String {
-        let (across, up) = (self.columns * self.scale / self.unit, self.rows * self.scale / self.unit);
-        let (width, height) = (self.width(), HEAD + up + legend.height() + MARGIN);
-        let (wide, high) = (round(width * self.unit), round(height * self.unit));
-        format!(
-            "<svg xmlns=\"http://www.w3.org/2000/svg\" width=\"{}\" height=\"{}\" viewBox=\"0 0 {} {}\">\n<style>\n{}{}</style>\n\
-             <rect width=\"100%\" height=\"100%\" fill=\"#fff\"/>\n\
-             <text class=\"name\" x=\"{m}\" y=\"30\">{}</text>\n<text x=\"{m}\" y=\"51\">{}</text>\n\
-             {}<g transform=\"translate({m} {})\">\n{}</g>\n</svg>\n",
-            wide,
-            high,
-            round(width),
-            round(height),
-            STYLE,
-            if self.has_pinned { PINNED_STYLE } else { "" },
-            escaped(name),
-            figures,
-            self.grid(across, up, shapes),
-            round(HEAD + up),
-            legend.svg(),
-            m = MARGIN,
-        )
+    /// How wide the grid is on the page.
+    fn across(&self) -> f64 {
+        self.columns * self.scale / self.unit
+    }
+
+    /// How high the grid is on the page.
+    pub fn up(&self) -> f64 {
+        self.rows * self.scale / self.unit
     }
 
     /// The grid in the middle of the page, with the shapes. Sample (0, 0) is half a pitch from its lower left corner, and y grows upward.
-    fn grid(&self, across: f64, up: f64, shapes: &str) -> String {
-        let (left, pitch) = ((self.width() - across) / 2.0, self.scale / self.unit);
+    pub fn grid(&self, page: &Page, shapes: &str) -> String {
+        let (across, up) = (self.across(), self.up());
+        let (left, pitch) = ((page.width - across) / 2.0, self.scale / self.unit);
         format!(
             "<rect class=\"grid\" x=\"{}\" y=\"{}\" width=\"{}\" height=\"{}\"/>\n\
              <g transform=\"translate({} {}) scale({fine} -{fine})\">\n{}</g>\n",
@@ -133,13 +105,4 @@ impl Frame {
             fine = pitch / 256.0,
         )
     }
-}
-
-/// Three decimals at most.
-pub fn round(length: f64) -> f64 {
-    (length * 1000.0).round() / 1000.0
-}
-
-fn escaped(text: &str) -> String {
-    text.replace('&', "&amp;").replace('<', "&lt;").replace('>', "&gt;")
 }

@@ -1,6 +1,7 @@
 //! What is drawn inside the frame: contours from the planner's list, removed and pinned vertices from the table, samples.
 
-use super::frame::{stroke, Frame};
+use super::frame::Frame;
+use crate::page::stroke;
 use puzhenim::{Kind, Layer, Refusal, Vertex};
 
 type Point = (i64, i64);
