@@ -106,9 +106,9 @@ uint32_t pz_plan(uint16_t w, uint16_t h, const uint8_t *bitmap, size_t bitmap_le
  * pitch, of start x * end y - end x * start y; a drawn edge joins two kept vertices, pinned or not, with only removed ones between. The number
  * of an outline, which winds around the inside ends of its sticks, is above 0, that of a bore, which winds around the outside ends, below 0.
  *
- * Writes to sums a number for each drawn edge, in the order of the entry of the stick that it starts from: what the drawn edges up to and with
- * this one add, whatever their contours. A drawn edge starts from each kept vertex, so there are as many as kept entries. On the way a sum may
- * be below 0 or above the last.
+ * Writes to sums a number for each drawn edge, in the order of the index in the table of the stick that it starts from: the sum over the drawn
+ * edges up to and including this one, whatever their contours. A drawn edge starts from each kept vertex, so there are as many sums as kept
+ * entries. On the way a sum may be below 0 or above the last.
  *
  * The total is the last of the sums, 0 if there is none, and the sum of the areas. It is above 0 if there is a contour. As a figure it is
  * signed, in two's complement: (int64_t)figures[3]. figures: place, contours, drawn edges, total */

@@ -1,5 +1,5 @@
 //! The areas that contours enclose, and how the total grows from stick to stick. The library gives them as whole numbers, so that they are
-//! exact; here is what those mean in square samples, of the contour and of the stick.
+//! exact. Here they get their meaning: square samples, the kind of a contour, the stick of each sum.
 
 use crate::{Kind, Vertex};
 
@@ -39,7 +39,7 @@ pub(crate) fn starts(table: &[u16]) -> impl Iterator<Item = usize> + '_ {
 }
 
 impl Area {
-    /// The area in square samples. It is exact below 2⁵³, as the areas and sums of every layer are.
+    /// The area in square samples. It is exact below 2⁵³, as the areas and sums of every held layer are.
     ///
     /// ```
     /// # use puzhenim::Area;
@@ -50,7 +50,7 @@ impl Area {
         self.0 as f64 / SQUARE_SAMPLE
     }
 
-    /// What a contour of this area is: an outline if it is above 0, a bore if it is below. No contour of a held layer has an area of 0, so that
+    /// What a contour of this area is (of a sum it says nothing): an outline if it is above 0, a bore if it is below. No contour of a held layer has an area of 0, so that
     /// each one in [`Areas::contours`] has a kind.
     ///
     /// ```

@@ -441,8 +441,8 @@ fn plots_a_sample_by_steps() {
     let expected = [
         "sum after the drawn edge that starts from the stick",
         "total 0.500000 square samples (65536 in 1/131072)",
-        "highest area 0.500000 (65536) after stick 10",
-        "lowest area -0.375000 (-49152) after stick 2",
+        "highest sum 0.500000 (65536) after stick 10",
+        "lowest sum -0.375000 (-49152) after stick 2",
     ];
     assert!(legend(&plot).ends_with(&expected), "{:?}", legend(&plot));
 }
@@ -482,7 +482,7 @@ fn a_plot_of_many_edges_is_small_and_hides_none() {
     assert!((top - place(*numbers.iter().max().unwrap())).abs() < 0.001);
     assert!((bottom - place(numbers.iter().min().unwrap().min(&0).to_owned())).abs() < 0.001);
     assert!(heights.len() > 1000 && curve.matches('H').count() <= 1921);
-    assert!(plot.contains("1092 sticks a column, from their lowest to their highest sum"));
+    assert!(plot.contains("1092 numbers a column, from the lowest to the highest of their sums"));
 }
 
 #[test]

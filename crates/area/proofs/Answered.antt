@@ -1,6 +1,6 @@
 -- The call that measures, by the answers to its questions: refused by 1 to 7, refused by 14, or done.
 use mathlib.Core.Path.{_≡_, refl, sym, ap, _∙_}
-use mathlib.Core.Bool.{Bool, true, false, _&&_}
+use mathlib.Core.Bool.{Bool, true, false}
 use mathlib.Core.List.{List, [], _∷_, _++_, map}
 use Prim.Native.Nat.{ℕ, suc, _≤_, _<_}
 use native.Mathlib.Omega.{arith}
@@ -26,7 +26,7 @@ use Rattle.held.specs.Questions.{Accepted, heldQuestions}
 use Rattle.shoelace.specs.Adds.{edgeAdds}
 use Rattle.shoelace.specs.Sums.{sumsAfter, sumsOf, totalOf, drawnCount}
 use Rattle.area.specs.Areas.{twiceArea, areasOf}
-use Rattle.area.specs.Call.{roomAnswer, Outcome, outcome, measureOf}
+use Rattle.area.specs.Call.{hasRoom, roomAnswer, Outcome, outcome, measureOf}
 use Rattle.area.specs.declared.measure.Measured.the-variants.{Done, Refused}
 
 -- there is a number for each contour
@@ -55,10 +55,6 @@ module _ (L : Layer) (t : List ℕ) (areas sums : List ℤ) where
   abbrev byAnswer : Answer → Outcome
   byAnswer answer = ifAllYes answer (λ q place. outcome (Refused q place) areas sums) doneOutcome
 
-  -- there is room in both outputs
-  abbrev room : Bool
-  room = leb (contourCount L) (length areas) && leb (drawnCount L t) (length sums)
-
   measured-by : (answer : Answer) → firstNo (heldQuestions L t ++ (roomAnswer L t areas sums ∷ [])) ≡ answer → measureOf L t areas sums ≡ byAnswer answer
   unfolding measureOf
   measured-by answer e = ap byAnswer e
@@ -68,7 +64,7 @@ module _ (L : Layer) (t : List ℕ) (areas sums : List ℤ) where
 
   module _ (yes : firstNo (heldQuestions L t) ≡ Yes) where
     -- what is left is question 14
-    by-room : (enough : Bool) → room ≡ enough → measureOf L t areas sums ≡ byAnswer (ask ShortOutput enough)
+    by-room : (enough : Bool) → hasRoom L t areas sums ≡ enough → measureOf L t areas sums ≡ byAnswer (ask ShortOutput enough)
     by-room enough e =
         measured-by (ask ShortOutput enough)
         (sym (append-yes (heldQuestions L t) (roomAnswer L t areas sums ∷ []) yes)
@@ -95,7 +91,7 @@ module _ (L : Layer) (t : List ℕ) (areas sums : List ℤ) where
       by : (answer : Answer) → firstNo (heldQuestions L t ++ (roomAnswer L t areas sums ∷ [])) ≡ answer → AllYes
       by Yes e =
           let both = append-all (heldQuestions L t) (roomAnswer L t areas sums ∷ []) e in
-          let enough = asked ShortOutput room (first-only (roomAnswer L t areas sums) ∙ both .1) in
+          let enough = asked ShortOutput (hasRoom L t areas sums) (first-only (roomAnswer L t areas sums) ∙ both .1) in
           let each = and-split (leb (contourCount L) (length areas)) (leb (drawnCount L t) (length sums)) enough in
           record {
             held = both .0;

@@ -32,9 +32,7 @@ single = layerOf (sizeOf 3 3) (0 ∷ 2 ∷ 0 ∷ [])
 abbrev traced : List ℕ
 traced = 0 ∷ 0 ∷ 128 ∷ 128 ∷ 0 ∷ 0 ∷ 0 ∷ 128 ∷ 0 ∷ 0 ∷ 128 ∷ 0 ∷ []
 
--- Its drawn edges start, by number, at sticks 2 and 3 on the row through the sample, 7 below and 10 above, with vertices at (128, 256), (384, 256), (256, 128)
--- and (256, 384), and go from 2 to 7 to 3 to 10 to 2. They add 128 · 128 − 256 · 256 = −49,152, 384 · 384 − 256 · 256 = 81,920, 256 · 256 − 384 · 128 = 16,384
--- and 256 · 256 − 128 · 384 = 16,384.
+-- its area, and the sums, which are worked out in `shoelace` proofs/Examples.antt
 pub single-area : measureOf single traced (pos 7 ∷ pos 7 ∷ []) (pos 7 ∷ pos 7 ∷ pos 7 ∷ pos 7 ∷ pos 7 ∷ [])
     ≡ outcome (Done 1 4 (pos 65536)) (pos 65536 ∷ pos 7 ∷ []) (negsuc 49151 ∷ pos 32768 ∷ pos 49152 ∷ pos 65536 ∷ pos 7 ∷ [])
 unfolding measureOf totalOf twiceArea sidesAnswer lengthAnswer spareAnswer borderAnswer tableLengthAnswer entriesAnswer heldAnswer heldContour edgeCrosses
@@ -62,8 +60,8 @@ abbrev without-first : List ℕ
 without-first =
     0 ∷ 0 ∷ 0 ∷ 384 ∷ 0 ∷ 128 ∷ 128 ∷ 0 ∷ 128 ∷ 0 ∷ 0 ∷ 0 ∷ 0 ∷ 128 ∷ 128 ∷ 0 ∷ 0 ∷ 0 ∷ 0 ∷ 0 ∷ 0 ∷ 128 ∷ 128 ∷ 0 ∷ []
 
-pub block-area : totalOf block without-first ≡ pos 425984
-unfolding totalOf firstsAmong number edgeCount edgeAt isStick sample bit next prev xor leastFrom keptAt removedAt offsetAt removedFrom keptFrom entryOf
+pub block-area : areasOf block without-first ≡ pos 425984 ∷ []
+unfolding twiceArea firstsAmong number edgeCount edgeAt isStick sample bit next prev xor leastFrom keptAt removedAt offsetAt removedFrom keptFrom entryOf
 block-area = refl
 
 pub block-held : firstNo (heldQuestions block without-first) ≡ Yes

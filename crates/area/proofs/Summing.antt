@@ -1,5 +1,5 @@
--- The sum along one contour. The walk stands at a stick; what is summed up to there, what the drawn edge adds that leads from the last kept vertex
--- to the next one, and what the drawn edges add that start later, make the whole.
+-- The sum along one contour. The walk stands at a stick; what is summed up to there, what the drawn edge from the last kept vertex to the
+-- next one adds, and what the drawn edges that start later add, make the whole.
 use mathlib.Core.Path.{_≡_, refl, sym, _∙_, ap, subst}
 use mathlib.Core.Bool.{true, false, true≢false, false≢true}
 use mathlib.Core.List.{List, [], _∷_, map}
@@ -28,11 +28,11 @@ use Rattle.drawn.proofs.Vertices.{vertices-of}
 use Rattle.drawn.proofs.DrawnEdges.{keptFromHere, nextKept-from}
 use Rattle.held.proofs.HeldFacts.{held-of}
 use Rattle.area.specs.declared.walk.Trail.{Trail}
-use Rattle.shoelace.specs.Adds.{cross, edgeAdds, Measurable}
+use Rattle.shoelace.specs.Adds.{cross, edgeAdds, HeldStick}
 use Rattle.area.specs.Areas.{sumOf, twiceArea}
 use Rattle.area.specs.Measuring.{origin, noTrail, trailTo, AreaFound}
 
--- what the drawn edges add that start among some sticks
+-- what the drawn edges that start among some sticks add
 abbrev pub sumAmong : Layer → List ℕ → List Edge → ℤ
 sumAmong L t l = sumOf (map (edgeAdds L t) (drawnAmong L t l))
 
@@ -53,7 +53,7 @@ from-origin q =
     let right : q .x * 0 ≡ 0 = omega arith in
     λ i. pos (left i) -ℤ pos (right i)
 
-module _ {L : Layer} {t : List ℕ} {f : Edge} (given : Measurable L t f) where
+module _ {L : Layer} {t : List ℕ} {f : Edge} (given : HeldStick L t f) where
   nextKept-is : (x : Edge) → OnContour (walkOf L) f x → nextKept L t x ≡ keptFromHere L t (next L x)
   nextKept-is x on =
       let all = given .accepted in
@@ -135,7 +135,7 @@ pub record PartSummed (L : Layer) (t : List ℕ) (f x : Edge) (area : ℤ) (trai
   pub due : Due (walkOf L) f x
   pub summed : Summed L t f x (rest (walkOf L) x f) area trail
 
-module _ {L : Layer} {t : List ℕ} {f : Edge} (given : Measurable L t f) where
+module _ {L : Layer} {t : List ℕ} {f : Edge} (given : HeldStick L t f) where
   abbrev law : Laws (walkOf L)
   law = laws L (given .accepted .sound)
 
@@ -223,7 +223,7 @@ module _ {L : Layer} {t : List ℕ} {f : Edge} (given : Measurable L t f) where
         }
 
 -- the number of one contour
-pub area-small : {L : Layer} {t : List ℕ} {f : Edge} {area : ℤ} → Measurable L t f → AreaFound L t f area → natAbs area ≤ 2 ^ 59
+pub area-small : {L : Layer} {t : List ℕ} {f : Edge} {area : ℤ} → HeldStick L t f → AreaFound L t f area → natAbs area ≤ 2 ^ 59
 area-small {L} {t} {f} given found =
     omega (
       arith,

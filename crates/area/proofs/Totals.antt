@@ -10,7 +10,7 @@ use Rattle.grid.specs.Layer.{Layer}
 use Rattle.grid.specs.Questions.{Sound}
 use Rattle.grid.specs.declared.edge.Edge.{Edge}
 use Rattle.contour.specs.Walk.{walked}
-use Rattle.contour.specs.Contours.{walkOf, sticksOf, contourOf, firstSticks}
+use Rattle.contour.specs.Contours.{walkOf, sticksByNumber, contourOf, firstSticks}
 use Rattle.contour.proofs.Orders.{reordered}
 use Rattle.contour.proofs.Sticks.{laws}
 use Rattle.contour.proofs.Theorems.{permutation, sticks-once}
@@ -63,16 +63,16 @@ module _ (L : Layer) (t : List ℕ) where
 
   -- in another order
   module _ (sound : Sound L) where
-    same-sum : sumAmong L t (sticksOf L) ≡ sumAmong L t (walked (walkOf L))
+    same-sum : sumAmong L t (sticksByNumber L) ≡ sumAmong L t (walked (walkOf L))
     same-sum =
-        sym (+ℤ-idl (sumAmong L t (sticksOf L)))
-        ∙ sym (folded (pos 0) (sticksOf L))
+        sym (+ℤ-idl (sumAmong L t (sticksByNumber L)))
+        ∙ sym (folded (pos 0) (sticksByNumber L))
         ∙ reordered (walkOf L) (laws L sound) add (λ z. Unit {0}) (λ e. Unit {0}) (λ z e h i. tt) (λ z x y h i j d. add-commute z x y)
-        (sticksOf L) (walked (walkOf L)) (λ e o. tt) (λ e. sticks-once L sound e ∙ sym (permutation L sound e)) (pos 0) tt
+        (sticksByNumber L) (walked (walkOf L)) (λ e o. tt) (λ e. sticks-once L sound e ∙ sym (permutation L sound e)) (pos 0) tt
         ∙ folded (pos 0) (walked (walkOf L))
         ∙ +ℤ-idl (sumAmong L t (walked (walkOf L)))
 
     -- "The total must come out equal on every held layer": it does on every sound one
     pub total-same : totalOf L t ≡ sumOf (areasOf L t)
     unfolding totalOf
-    total-same = last-sum (pos 0) (map (edgeAdds L t) (drawnByNumber L t)) ∙ +ℤ-idl (sumAmong L t (sticksOf L)) ∙ same-sum ∙ along (firstSticks L)
+    total-same = last-sum (pos 0) (map (edgeAdds L t) (drawnByNumber L t)) ∙ +ℤ-idl (sumAmong L t (sticksByNumber L)) ∙ same-sum ∙ along (firstSticks L)

@@ -1,5 +1,5 @@
 -- The call that measures: what it answers and leaves in its outputs.
-use mathlib.Core.Bool.{_&&_}
+use mathlib.Core.Bool.{Bool, _&&_}
 use mathlib.Core.List.{List, [], _∷_, _++_}
 use Prim.Native.Nat.{ℕ}
 use lib.Dec.{leb}
@@ -36,8 +36,11 @@ outcome (Refused q place) areas sums =
     record { refusal = numberOf q; place = place; contours = 0; edges = 0; total = pos 0; areas = areas; sums = sums }
 
 -- "14. Does each output hold the whole answer? (0)": a number for each contour, and one for each drawn edge
+abbrev pub hasRoom : Layer → List ℕ → List ℤ → List ℤ → Bool
+hasRoom L t areas sums = leb (contourCount L) (length areas) && leb (drawnCount L t) (length sums)
+
 abbrev pub roomAnswer : Layer → List ℕ → List ℤ → List ℤ → Answer
-roomAnswer L t areas sums = ask ShortOutput (leb (contourCount L) (length areas) && leb (drawnCount L t) (length sums))
+roomAnswer L t areas sums = ask ShortOutput (hasRoom L t areas sums)
 
 -- "These figures belong to held layers only, so questions 1 to 7 stand before them"; then 14. "A refusal leaves all buffers as found .. Outputs
 -- past the answer's end stay untouched."

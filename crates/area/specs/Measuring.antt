@@ -1,4 +1,4 @@
--- What the code that measures is given, and what it ensures.
+-- What the walk along a contour keeps, and what it ensures.
 use mathlib.Core.Path.{_≡_}
 use mathlib.Core.Bool.{true, false, cond}
 use mathlib.Core.List.{List}

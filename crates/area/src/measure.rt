@@ -1,4 +1,4 @@
-// The public call that measures the contours of a held layer.
+// The public call that measures a held layer: the area of each contour, and the sum after each drawn edge.
 use super::contours::put_areas;
 use bitset::EdgeSet;
 use bitset::WORDS;
@@ -26,7 +26,7 @@ pub enum Measured {
     Refused(Refusal, usize),
 }
 
-// Measures a layer that passed questions 1 to 7, if both outputs are long enough.
+// Question 14, and the areas and sums, of a layer that passed 1 to 7.
 fn measure_held(
     size: Size,
     bitmap: &[u8],
@@ -56,7 +56,7 @@ fn measure_held(
     }
 }
 
-// Twice the signed area of each contour of a held layer, the sum after each drawn edge in the order of the number of the stick where it starts, and
+// Twice the signed area of each contour of a held layer, the sum after each drawn edge in the order of the number of the stick it starts from, and
 // the last of these sums. A refusal leaves the outputs as found, and what lies past the answer's end stays as it was.
 pub fn areas(
     w: u16,

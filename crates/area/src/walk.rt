@@ -10,7 +10,7 @@ use table::entry_at;
 use table::is_kept;
 ghost use mathlib.Core.Path.{_≡_};
 ghost use Rattle.grid.specs.Layer.{layerOf};
-ghost use Rattle.shoelace.specs.Adds.{Measurable};
+ghost use Rattle.shoelace.specs.Adds.{HeldStick};
 ghost use Rattle.area.specs.Measuring.{trailTo, AreaFound};
 
 // The first and the last kept vertex that a walk has passed. Before there is one, both are the origin, from where an edge adds nothing.
@@ -31,10 +31,10 @@ fn trail_to(trail: Trail, here: Position) -> Trail
     }
 }
 
-// The sum over the drawn edges of the contour that starts at `first`: each ends at a kept vertex that the walk passes, but for the one from the last
-// of them to the first.
+// The sum over the drawn edges of the contour that starts at `first`. Each is added when the walk passes the kept vertex where it ends; the one from the
+// last to the first is added after the walk.
 pub fn contour_area(size: Size, bitmap: &[u8], table: &[u16], first: Edge) -> i64
-    requires { ⌜ Measurable (layerOf size (now bitmap)) (now table) first ⌝ }
+    requires { ⌜ HeldStick (layerOf size (now bitmap)) (now table) first ⌝ }
     ensures { λ r. ⌜ AreaFound (layerOf size (now (bitmap .entry))) (now (table .entry)) first r ⌝ }
 {
     let mut area: i64 = 0;

@@ -13,7 +13,7 @@ use Rattle.arith.specs.Booleans.{asNumber}
 use Rattle.arith.proofs.Booleans.{both-sides, one-le}
 use Rattle.arith.proofs.Finite.{count-more}
 use Rattle.arith.specs.Ranges.{count}
-use Rattle.contour.specs.Walk.{Walk, Laws, occurrences, numbered, consIf}
+use Rattle.contour.specs.Walk.{Walk, Laws, occurrences, numbered, numberedFrom, consIf}
 use Rattle.contour.proofs.Orbit.{same-true, same-false}
 
 module _ (w : Walk) (test : w .Element → Bool) where
@@ -44,33 +44,30 @@ module _ (w : Walk) (test : w .Element → Bool) where
 
   -- Those from number p on
 
-  abbrev pub numberedFrom : ℕ → List A
-  numberedFrom p = numbered w test p (many - p)
-
-  pub from-end : (p : ℕ) → many ≤ p → numberedFrom p ≡ []
+  pub from-end : (p : ℕ) → many ≤ p → numberedFrom w test p ≡ []
   from-end p l = let e : many - p ≡ 0 = omega arith in ap (numbered w test p) e ∙ numbered-none p
 
-  pub from-here : (p : ℕ) → p < many → test (at p) ≡ true → numberedFrom p ≡ at p ∷ numberedFrom (p + 1)
+  pub from-here : (p : ℕ) → p < many → test (at p) ≡ true → numberedFrom w test p ≡ at p ∷ numberedFrom w test (p + 1)
   from-here p l f =
       let e : many - p ≡ suc (many - (p + 1)) = omega arith in
       ap (numbered w test p) e ∙ numbered-here p (many - (p + 1)) f
 
-  from-other : (p : ℕ) → test (at p) ≡ false → numberedFrom p ≡ numberedFrom (p + 1)
+  from-other : (p : ℕ) → test (at p) ≡ false → numberedFrom w test p ≡ numberedFrom w test (p + 1)
   from-other p f = go (decLt p many)
     where
-      go : Dec (p < many) → numberedFrom p ≡ numberedFrom (p + 1)
+      go : Dec (p < many) → numberedFrom w test p ≡ numberedFrom w test (p + 1)
       go (yes l) =
           let e : many - p ≡ suc (many - (p + 1)) = omega arith in
           ap (numbered w test p) e ∙ numbered-other p (many - (p + 1)) f
       go (no l) = from-end p (omega arith) ∙ sym (from-end (p + 1) (omega arith))
 
-  pub from-skip : (d p : ℕ) → ((j : ℕ) → p ≤ j → j < p + d → test (at j) ≡ false) → numberedFrom p ≡ numberedFrom (p + d)
+  pub from-skip : (d p : ℕ) → ((j : ℕ) → p ≤ j → j < p + d → test (at j) ≡ false) → numberedFrom w test p ≡ numberedFrom w test (p + d)
   from-skip zero p none = rw add-zero
   from-skip (suc d) p none =
       let e : p + 1 + d ≡ p + suc d = omega arith in
       from-other p (none p (omega arith) (omega arith))
       ∙ from-skip d (p + 1) (λ j h l. none j (omega arith) (omega arith))
-      ∙ ap numberedFrom e
+      ∙ ap (numberedFrom w test) e
 
 -- Numbers that ascend
 

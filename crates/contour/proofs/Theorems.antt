@@ -20,7 +20,7 @@ use Rattle.grid.specs.declared.layer.Size.{Size}
 use Rattle.grid.specs.declared.edge.Edge.{Edge}
 use Rattle.grid.proofs.Numbers.{WithinGrid, within, in-kind-below}
 use Rattle.contour.specs.Walk.{occurrences, first, low, walked, ahead, Round}
-use Rattle.contour.specs.Contours.{walkOf, sticksOf, contourOf, firstSticks, contourCount, earlier}
+use Rattle.contour.specs.Contours.{walkOf, sticksByNumber, contourOf, firstSticks, contourCount, earlier}
 use Rattle.contour.proofs.Orbit.{round, contour-at}
 use Rattle.contour.proofs.Numbered.{all-once}
 use Rattle.contour.proofs.Members.{place, on-one, on-ahead, in-list}
@@ -103,7 +103,7 @@ module _ (L : Layer) (sound : Sound L) where
   total-length = length-walked (walkOf L) (laws L sound)
 
   -- The sticks by number have each of them once, too.
-  pub sticks-once : (e : Edge) → occurrences (walkOf L) e (sticksOf L) ≡ asNumber (isStick L e)
+  pub sticks-once : (e : Edge) → occurrences (walkOf L) e (sticksByNumber L) ≡ asNumber (isStick L e)
   sticks-once = all-once (walkOf L) (laws L sound) (isStick L) (λ e stick. stick)
 
   -- Every contour has a horizontal stick, so first sticks are horizontal.

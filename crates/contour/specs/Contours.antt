@@ -10,7 +10,7 @@ use Rattle.grid.specs.Layer.{Layer}
 use Rattle.grid.specs.Edges.{number, edgeAt, edgeCount, isStick}
 use Rattle.step.specs.Walk.{next, prev}
 use Rattle.grid.specs.declared.edge.Edge.{Edge}
-use Rattle.contour.specs.Walk.{Walk, contour, occurrences, ones, first, firsts, contours}
+use Rattle.contour.specs.Walk.{Walk, contour, occurrences, byNumber, first, firsts, contours}
 
 abbrev pub sameEdge : Edge → Edge → Bool
 sameEdge e f = Bool·beq (e .vertical) (f .vertical) && eqb (e .column) (f .column) && eqb (e .row) (f .row)
@@ -29,8 +29,8 @@ walkOf L = record {
 }
 
 -- all sticks, ascending by number
-abbrev pub sticksOf : Layer → List Edge
-sticksOf L = ones (walkOf L)
+abbrev pub sticksByNumber : Layer → List Edge
+sticksByNumber L = byNumber (walkOf L)
 
 -- the contour that starts at f: the sticks that the walk from f passes until it is back
 abbrev pub contourOf : Layer → Edge → List Edge

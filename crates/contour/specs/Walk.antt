@@ -80,9 +80,13 @@ module _ (w : Walk) where
   numbered test k zero = []
   numbered test k (suc n) = consIf (test (at k)) (at k) (numbered test (k + 1) n)
 
+  -- those with numbers from p on
+  abbrev pub numberedFrom : (A → Bool) → ℕ → List A
+  numberedFrom test p = numbered test p (many - p)
+
   -- all that count, ascending
-  abbrev pub ones : List A
-  ones = numbered isOne 0 many
+  abbrev pub byNumber : List A
+  byNumber = numbered isOne 0 many
 
   -- the first elements among the n numbers from k on, ascending
   unfoldable pub firstsAmong : ℕ → ℕ → List A

@@ -1,5 +1,6 @@
 -- The drawn edges of contours as lists. Those of one contour start at its kept vertices, each at one, and each begins where the one before
--- ended, back to the first. Those of all contours start at all kept vertices of sticks, each at one, and are as many as the kept entries.
+-- ended, back to the first. Those of all contours start at all kept vertices of sticks, each at one, and are as many as the kept entries; by number
+-- they are the same.
 use mathlib.Core.Path.{_≡_, refl, sym, ap, _∙_}
 use mathlib.Core.Bool.{true, cond}
 use mathlib.Core.List.{List, [], _∷_, _++_, map, flatten}
@@ -20,7 +21,7 @@ use Rattle.grid.proofs.Numbers.{edgeAt-within}
 use Rattle.step.specs.Walk.{next}
 use Rattle.step.proofs.Walks.{next-stick}
 use Rattle.contour.specs.Walk.{occurrences, OnContour, ahead, walked}
-use Rattle.contour.specs.Contours.{walkOf, sticksOf, contourOf, firstSticks, sameEdge}
+use Rattle.contour.specs.Contours.{walkOf, sticksByNumber, contourOf, firstSticks, sameEdge}
 use Rattle.contour.proofs.Orbit.{run, round, contour-run}
 use Rattle.contour.proofs.Members.{once, on-one, on-next, on-self, on-swap, on-trans, length-counts}
 use Rattle.contour.proofs.Sticks.{laws, same-edge}
@@ -168,10 +169,10 @@ module _ (L : Layer) (t : List ℕ) (sound : Sound L) where
 
   -- by number: the same edges, as many
   pub number-starts : (e : Edge) → occurrences (walkOf L) e (starts (drawnByNumber L t)) ≡ asNumber (keptAt L t e) * asNumber (isStick L e)
-  number-starts = starts-of-all (sticksOf L) (sticks-once L sound)
+  number-starts = starts-of-all (sticksByNumber L) (sticks-once L sound)
 
   pub same-starts : (e : Edge) → occurrences (walkOf L) e (starts (drawnByNumber L t)) ≡ occurrences (walkOf L) e (starts (drawnEdges L t))
   same-starts e = number-starts e ∙ sym (all-starts e)
 
   pub number-many : entriesAnswer L t ≡ Yes → length (drawnByNumber L t) ≡ count (keptEntry t) (edgeCount (L .size))
-  number-many = many-of-all (sticksOf L) (sticks-once L sound)
+  number-many = many-of-all (sticksByNumber L) (sticks-once L sound)

@@ -8,7 +8,7 @@ use Rattle.grid.specs.Layer.{Layer}
 use Rattle.grid.specs.Edges.{isStick}
 use Rattle.grid.specs.declared.edge.Edge.{Edge}
 use Rattle.contour.specs.Walk.{occurrences, consIf}
-use Rattle.contour.specs.Contours.{walkOf, sticksOf, contourOf, firstSticks}
+use Rattle.contour.specs.Contours.{walkOf, sticksByNumber, contourOf, firstSticks}
 use Rattle.chord.specs.Points.{Position, position, Point, On}
 use Rattle.chord.specs.Crossing.{crosses}
 use Rattle.table.specs.Vertices.{keptAt, removedAt, offsetAt}
@@ -60,9 +60,9 @@ drawnAlong L t order = flatten (map (drawnOf L t) order)
 abbrev pub drawnEdges : Layer → List ℕ → List Ends
 drawnEdges L t = drawnAlong L t (firstSticks L)
 
--- the same "in the order of the number of the stick they start from" (Note 7)
+-- the same (proofs/DrawnEdges.antt: `same-starts`) "in the order of the number of the stick they start from" (Note 7)
 abbrev pub drawnByNumber : Layer → List ℕ → List Ends
-drawnByNumber L t = drawnAmong L t (sticksOf L)
+drawnByNumber L t = drawnAmong L t (sticksByNumber L)
 
 -- the sticks where they start
 abbrev pub starts : List Ends → List Edge

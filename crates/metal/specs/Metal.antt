@@ -1,5 +1,5 @@
--- What purchasing may rely on of the areas of a held layer: their signs, and how near they are to the samples that are counted; and that the call's
--- answer is these areas.
+-- What purchasing may rely on of the areas of a held layer: their signs, that the total by stick number is their sum, and how near they are to the samples
+-- that are counted; and that the call's answer is these areas and sums.
 use mathlib.Core.Path.{_≡_}
 use mathlib.Core.Logic.{_⊎_, _≢_}
 use mathlib.Core.Bool.{true}

@@ -1,13 +1,13 @@
 -- Sums by running the definitions: the paper's single sample as traced, and a layer without contours.
 use mathlib.Core.Path.{_≡_, refl}
 use mathlib.Core.Bool.{xor}
-use mathlib.Core.List.{List, [], _∷_}
+use mathlib.Core.List.{List, [], _∷_, flatten}
 use Prim.Native.Nat.{ℕ}
 use lib.IntN.{pos, negsuc}
 use Rattle.grid.specs.Layer.{Layer, layerOf, sizeOf, sample, bit}
 use Rattle.grid.specs.Edges.{number, edgeCount, edgeAt, isStick}
 use Rattle.step.specs.Walk.{next, prev}
-use Rattle.contour.specs.Walk.{numbered}
+use Rattle.contour.specs.Walk.{firstsAmong}
 use Rattle.table.specs.Entries.{entryOf}
 use Rattle.table.specs.Vertices.{keptAt, removedAt, offsetAt}
 use Rattle.drawn.specs.Neighbours.{removedFrom, keptFrom}
@@ -23,13 +23,13 @@ abbrev traced : List ℕ
 traced = 0 ∷ 0 ∷ 128 ∷ 128 ∷ 0 ∷ 0 ∷ 0 ∷ 128 ∷ 0 ∷ 0 ∷ 128 ∷ 0 ∷ []
 
 pub single-sums : sumsOf single traced ≡ negsuc 49151 ∷ pos 32768 ∷ pos 49152 ∷ pos 65536 ∷ []
-unfolding numbered number edgeCount edgeAt isStick sample bit next prev xor keptAt removedAt offsetAt removedFrom keptFrom entryOf
+unfolding flatten firstsAmong number edgeCount edgeAt isStick sample bit next prev xor keptAt removedAt offsetAt removedFrom keptFrom entryOf
 single-sums = refl
 
 pub single-total : totalOf single traced ≡ pos 65536
-unfolding totalOf numbered number edgeCount edgeAt isStick sample bit next prev xor keptAt removedAt offsetAt removedFrom keptFrom entryOf
+unfolding totalOf firstsAmong number edgeCount edgeAt isStick sample bit next prev xor keptAt removedAt offsetAt removedFrom keptFrom entryOf
 single-total = refl
 
 pub no-contour : totalOf (layerOf (sizeOf 3 3) (0 ∷ 0 ∷ 0 ∷ [])) (0 ∷ 0 ∷ 0 ∷ 0 ∷ 0 ∷ 0 ∷ 0 ∷ 0 ∷ 0 ∷ 0 ∷ 0 ∷ 0 ∷ []) ≡ pos 0
-unfolding totalOf numbered number edgeCount edgeAt isStick sample bit next prev xor keptAt removedAt offsetAt removedFrom keptFrom entryOf
+unfolding totalOf firstsAmong number edgeCount edgeAt isStick sample bit next prev xor keptAt removedAt offsetAt removedFrom keptFrom entryOf
 no-contour = refl

@@ -21,7 +21,7 @@ use Rattle.grid.proofs.Numbers.{number-below, edgeAt-number, edgeAt-row, column
 use Rattle.grid.proofs.Samples.{last-byte}
 use Rattle.step.proofs.Walks.{stick-within}
 use Rattle.contour.specs.Walk.{numbered}
-use Rattle.contour.specs.Contours.{walkOf, sticksOf}
+use Rattle.contour.specs.Contours.{walkOf, sticksByNumber}
 use Rattle.contour.proofs.Numbered.{from-here, from-skip, from-end}
 use Rattle.contour.proofs.Bytes.{Left, left-start, left-found, left-next, left-done}
 use Rattle.contour.proofs.Sticks.{stick-in}
@@ -29,12 +29,12 @@ use Rattle.table.specs.Vertices.{keptAt}
 use Rattle.table.specs.Lent.{LentAt}
 use Rattle.drawn.specs.Drawn.{drawnFrom, drawnAmong}
 use Rattle.held.specs.Questions.{Accepted}
-use Rattle.shoelace.specs.Adds.{edgeAdds, Measurable}
+use Rattle.shoelace.specs.Adds.{edgeAdds, HeldStick}
 use Rattle.shoelace.specs.Sums.{sumsAfter, lastOf, totalOf, drawnCount}
 use Rattle.shoelace.specs.Running.{State, withStick, sticksFrom, resultFrom, Below, Onward, spot, InRow, AtStick, AllSummed}
 
 -- a stick that is measured has an entry
-pub lent-at : {L : Layer} {t : List ℕ} {e : Edge} → Measurable L t e → LentAt L t e
+pub lent-at : {L : Layer} {t : List ℕ} {e : Edge} → HeldStick L t e → LentAt L t e
 lent-at given = record { sound = given .accepted .sound; exact = given .accepted .exact; stick = given .stick }
 
 -- ---- the state
@@ -289,7 +289,7 @@ through L t (e ∷ l) output sum edges =
     (λ k. rw k (through L t l output sum edges))
 
 module _ {L : Layer} {t : List ℕ} (accepted : Accepted L t) where
-  from-begin : sticksFrom L 0 ≡ sticksOf L
+  from-begin : sticksFrom L 0 ≡ sticksByNumber L
   from-begin = let all : edgeCount (L .size) - 0 ≡ edgeCount (L .size) = omega arith in ap (numbered (walkOf L) (isStick L) 0) all
 
   -- the horizontal edges come first, then the vertical ones
@@ -324,7 +324,7 @@ module _ {L : Layer} {t : List ℕ} (accepted : Accepted L t) where
           sym (ap (foldl (withStick L t) u) over)
           ∙ run .same
           ∙ ap (foldl (withStick L t) (fresh found)) from-begin
-          ∙ through L t (sticksOf L) found (pos 0) 0 in
+          ∙ through L t (sticksByNumber L) found (pos 0) 0 in
           record {
             put = ap (λ (x : State). x .output) whole;
             last = ap (λ (x : State). x .running .sum) whole;

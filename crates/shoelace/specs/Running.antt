@@ -7,10 +7,10 @@ use lib.IntN.{ℤ, natAbs, _+ℤ_}
 use lib.ListN.{length, set}
 use lib.Seq.{sets}
 use Rattle.grid.specs.Layer.{Layer}
-use Rattle.grid.specs.Edges.{edgeColumns, edgeRows, edgeCount, rowStart, number, isStick}
+use Rattle.grid.specs.Edges.{edgeColumns, edgeRows, rowStart, number, isStick}
 use Rattle.grid.specs.declared.layer.Size.{Size}
 use Rattle.grid.specs.declared.edge.Edge.{Edge}
-use Rattle.contour.specs.Walk.{numbered}
+use Rattle.contour.specs.Walk.{numberedFrom}
 use Rattle.contour.specs.Contours.{walkOf}
 use Rattle.table.specs.Vertices.{keptAt}
 use Rattle.drawn.specs.Drawn.{drawnFrom, drawnAmong}
@@ -39,12 +39,12 @@ withStick L t s e = cond (keptAt L t e) (withEdge (edgeAdds L t (drawnFrom L t e
 
 -- the sticks with number p or above, ascending, and what comes of a state when they are gone through
 abbrev pub sticksFrom : Layer → ℕ → List Edge
-sticksFrom L p = numbered (walkOf L) (isStick L) p (edgeCount (L .size) - p)
+sticksFrom L p = numberedFrom (walkOf L) (isStick L) p
 
 abbrev pub resultFrom : Layer → List ℕ → ℕ → State → State
 resultFrom L t p s = foldl (withStick L t) s (sticksFrom L p)
 
--- The sticks below number p are done: what is left to store has room, and the sum is small, as each edge adds at most 2^37.
+-- The sticks below number p are done: they gave at most p edges, what is left to store has room, and the sum is small, as each edge adds at most 2^37.
 pub record Below (L : Layer) (t : List ℕ) (p : ℕ) (s : State) : Type 0 where
   pub accepted : Accepted L t
   pub room : s .running .edges + length (drawnAmong L t (sticksFrom L p)) ≤ length (s .output)
@@ -70,7 +70,8 @@ pub record AtStick (L : Layer) (t : List ℕ) (e : Edge) (s : State) : Type 0 wh
   pub stick : isStick L e ≡ true
   pub below : Below L t (number (L .size) e) s
 
--- the sums after all drawn edges stand in the output, and the last is found, which fits: each edge adds at most 2^37, and there are fewer than 2^21
+-- The sums after all drawn edges stand in the output, and the last of them is `total`, which fits: each edge adds at most 2^37, and there are fewer than
+-- 2^21.
 pub record AllSummed (L : Layer) (t : List ℕ) (found left : List ℤ) (total : ℤ) : Type 0 where
   pub put : left ≡ sets found 0 (sumsOf L t)
   pub last : total ≡ totalOf L t

@@ -16,12 +16,13 @@ sumsAfter s (z ∷ l) = (s +ℤ z) ∷ sumsAfter (s +ℤ z) l
 abbrev pub sumsOf : Layer → List ℕ → List ℤ
 sumsOf L t = sumsAfter (pos 0) (map (edgeAdds L t) (drawnByNumber L t))
 
--- "The total of Note 6 is to be summed" so: it is the last of these sums, 0 without edges. That it is "the sum over contours", as Note 6 has it, is a
--- theorem (`area` proofs/Totals.antt).
+-- the last of some numbers, z if there is none
 abbrev pub lastOf : ℤ → List ℤ → ℤ
 lastOf z [] = z
 lastOf z (y ∷ l) = lastOf y l
 
+-- "The total of Note 6 is to be summed" so: it is the last of these sums, 0 without edges. That it is "the sum over contours", as Note 6 has it, is a
+-- theorem (`area` proofs/Totals.antt).
 unfoldable pub totalOf : Layer → List ℕ → ℤ
 totalOf L t = lastOf (pos 0) (sumsOf L t)
 

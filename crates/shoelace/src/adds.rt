@@ -13,7 +13,7 @@ ghost use Rattle.grid.specs.Layer.{layerOf};
 ghost use Rattle.chord.specs.Runs.{Near};
 ghost use Rattle.table.specs.Vertices.{keptAt};
 ghost use Rattle.drawn.specs.Drawn.{drawnFrom};
-ghost use Rattle.shoelace.specs.Adds.{cross, edgeAdds, Measurable};
+ghost use Rattle.shoelace.specs.Adds.{cross, edgeAdds, HeldStick};
 
 // What a drawn edge from p to q adds.
 pub fn cross_of(p: Position, q: Position) -> i64
@@ -25,9 +25,9 @@ pub fn cross_of(p: Position, q: Position) -> i64
     signed(p.x) * signed(q.y) - signed(q.x) * signed(p.y)
 }
 
-// What the drawn edge adds that starts at the kept vertex of e. Its gap is walked once.
+// What the drawn edge that starts at the kept vertex of e adds. Its gap is walked once.
 pub fn edge_adds(size: Size, bitmap: &[u8], table: &[u16], e: Edge) -> i64
-    requires { ⌜ Measurable (layerOf size (now bitmap)) (now table) e ⌝ }
+    requires { ⌜ HeldStick (layerOf size (now bitmap)) (now table) e ⌝ }
     requires { ⌜ keptAt (layerOf size (now bitmap)) (now table) e ≡ true ⌝ }
     ensures { λ r. ⌜ r ≡ edgeAdds (layerOf size (now (bitmap .entry))) (now (table .entry)) (drawnFrom (layerOf size (now (bitmap .entry))) (now (table .entry)) e) ⌝ }
     ensures { λ r. ⌜ natAbs r ≤ 2 ^ 37 ⌝ }

@@ -1,4 +1,4 @@
-// The shoelace formula: what a drawn edge adds to twice the area, and the sum after each, in the order of the number of the stick where it starts.
+// The shoelace formula over the drawn edges of a layer: what one adds to twice the area (adds), and the sum after each (sums).
 mod adds;
 mod sums;
 

@@ -1,4 +1,4 @@
-// The area growing from stick to stick: the sum after each drawn edge, in the order of the number of the stick where it starts.
+// The area growing from stick to stick: the sum after each drawn edge, in the order of the number of the stick it starts from.
 use super::adds::edge_adds;
 use bitset::lowest_bit;
 use bitset::widen;
@@ -38,7 +38,8 @@ fn put_sum(
     if !is_kept(entry_at(size, table, e)) {
         return done;
     }
-    let sum = done.sum + edge_adds(size, bitmap, table, e);
+    let before = done.sum;
+    let sum = before + edge_adds(size, bitmap, table, e);
     let place = done.edges;
     sums[place] = sum;
     Running {
@@ -47,7 +48,7 @@ fn put_sum(
     }
 }
 
-// The edges of a kind in the columns 8 × at to 8 × at + 7 of a row: from stick to stick, so a byte without one costs nothing more.
+// The edges of a kind in the columns 8 × at to 8 × at + 7 of a row: from stick to stick, so that a byte without one costs a single test.
 fn sums_in_byte(
     size: Size,
     bitmap: &[u8],
@@ -122,7 +123,7 @@ fn sums_of_kind(
     running
 }
 
-// Stores the sum after each drawn edge, and gives the last one: horizontal edges have the lower numbers.
+// Stores the sum after each drawn edge, and gives the last one, 0 if there is none: horizontal edges have the lower numbers.
 pub fn put_sums(size: Size, bitmap: &[u8], table: &[u16], sums: &mut [i64]) -> i64
     requires { ⌜ Accepted (layerOf size (now bitmap)) (now table) ⌝ }
     requires { ⌜ drawnCount (layerOf size (now bitmap)) (now table) ≤ length (now sums) ⌝ }

@@ -1,4 +1,4 @@
--- Kept vertices and question 15, by the entries alone: it is put after question 6 was answered yes, so each stick's entry is
+-- Kept vertices, and question 15, by the entries alone. Both are asked about after question 6 was answered yes, so each stick's entry is
 -- that of a kept vertex, pinned or not, or of a removed one.
 use mathlib.Core.Bool.{Bool}
 use mathlib.Core.List.{List}

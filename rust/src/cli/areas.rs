@@ -24,9 +24,11 @@ pub fn sheet_lines(layer: Layer, areas: &Areas) -> Result<String, Refusal> {
 /// A line for each sum: number, kind, column and row of the stick, kind 0 being horizontal and 1 vertical, and the sum after its edge.
 pub fn sum_lines(layer: Layer, areas: &Areas) -> String {
     let edges = areas.sums.iter().filter_map(|sum| layer.edge(sum.stick).map(|edge| (sum, edge)));
-    let line =
-        |(sum, edge): (&Sum, Edge)| format!("{} {} {} {} {}\n", sum.stick, u8::from(edge.vertical), edge.column, edge.row, sum.after.0);
-    edges.map(line).collect()
+    edges.map(|(sum, edge)| sum_line(sum, edge)).collect()
+}
+
+fn sum_line(sum: &Sum, edge: Edge) -> String {
+    format!("{} {} {} {} {}\n", sum.stick, u8::from(edge.vertical), edge.column, edge.row, sum.after.0)
 }
 
 fn name(area: Area) -> &'static str {

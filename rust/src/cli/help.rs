@@ -98,8 +98,8 @@ The last line is the total, the sum over all contours.
 pub const AREAS: &str = "\
 puzhenim areas IN SHEET [--sums FILE] [--plot PICTURE] [--pad]
 
-Says how many contours and drawn edges the sheet has, the area of each contour
-and the total, as check does; nothing if an output is -.
+Says how many contours and drawn edges the sheet has, then the area of each
+contour and the total as check has them. Says nothing if an output is -.
 
 The total is also the sum over all drawn edges in the order of the number of the
 stick that each starts from. In 1/256 of the pitch, an edge adds its start's x

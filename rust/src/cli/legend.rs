@@ -98,9 +98,9 @@ fn in_rows(width: f64, entries: Vec<Entry>) -> Vec<Vec<Entry>> {
     rows
 }
 
-/// An area in square samples, and exactly.
-pub fn measured(area: Area) -> String {
-    format!("area {:.6} ({})", area.square_samples(), area.0)
+/// An area or a sum of this name, in square samples and exactly.
+pub fn measured(name: &str, area: Area) -> String {
+    format!("{} {:.6} ({})", name, area.square_samples(), area.0)
 }
 
 /// The total, which says what the numbers are.

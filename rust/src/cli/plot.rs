@@ -18,7 +18,7 @@ pub fn draw(name: &str, layer: Layer, areas: &Areas) -> String {
     let frame = Frame {
         across: Axis::exact(0.0, layer.edges() as f64),
         up: Axis::rounded(low.square_samples(), high.square_samples()),
-        verticals_from: (0..layer.edges()).take_while(|number| layer.edge(*number).map_or(false, |edge| !edge.vertical)).count(),
+        verticals_from: usize::from(layer.height) * (usize::from(layer.width) - 1),
     };
     let edges = counted(areas.sums.len(), "drawn edge");
     let figures = format!("{} × {} samples; {}, {}", layer.width, layer.height, counted(areas.contours.len(), "contour"), edges);
@@ -32,7 +32,7 @@ pub fn draw(name: &str, layer: Layer, areas: &Areas) -> String {
 fn line_entries(curve: &Curve, areas: &Areas) -> Vec<Entry> {
     let bundled = match curve.bundle {
         1 => String::new(),
-        sticks => format!("; {} sticks a column, from their lowest to their highest sum", sticks),
+        numbers => format!("; {} numbers a column, from the lowest to the highest of their sums", numbers),
     };
     let text = format!("sum after the drawn edge that starts from the stick{}", bundled);
     vec![Entry { symbol: Symbol::Shape("sum"), text }, Entry { symbol: Symbol::Line("total"), text: total(areas.total) }]
@@ -42,9 +42,7 @@ fn line_entries(curve: &Curve, areas: &Areas) -> Vec<Entry> {
 fn reach_entries(areas: &Areas) -> Vec<Entry> {
     let highest = areas.sums.iter().rev().max_by_key(|sum| sum.after);
     let lowest = areas.sums.iter().min_by_key(|sum| sum.after);
-    let entry = |name: &str, sum: &Sum| Entry {
-        symbol: Symbol::Blank,
-        text: format!("{} {} after stick {}", name, measured(sum.after), sum.stick),
-    };
-    highest.map(|sum| entry("highest", sum)).into_iter().chain(lowest.map(|sum| entry("lowest", sum))).collect()
+    let entry =
+        |name: &str, sum: &Sum| Entry { symbol: Symbol::Blank, text: format!("{} after stick {}", measured(name, sum.after), sum.stick) };
+    highest.map(|sum| entry("highest sum", sum)).into_iter().chain(lowest.map(|sum| entry("lowest sum", sum))).collect()
 }

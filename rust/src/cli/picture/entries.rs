@@ -9,11 +9,11 @@ use puzhenim::{Areas, Kind};
 pub fn contours(shapes: &Shapes, areas: &Areas) -> Vec<Entry> {
     let mut entries = Vec::new();
     if shapes.outlines > 0 {
-        let text = format!("outline, inside shaded, {}", measured(areas.sum_of(Kind::Outline)));
+        let text = format!("outline, inside shaded, {}", measured("area", areas.sum_of(Kind::Outline)));
         entries.push(Entry { symbol: Symbol::Shape("outline"), text });
     }
     if shapes.bores > 0 {
-        let text = format!("bore, {}", measured(areas.sum_of(Kind::Bore)));
+        let text = format!("bore, {}", measured("area", areas.sum_of(Kind::Bore)));
         entries.push(Entry { symbol: Symbol::Shape("bore"), text });
     }
     if !areas.contours.is_empty() {

@@ -8,13 +8,13 @@ const MOST: usize = 1920;
 
 pub struct Curve {
     columns: Vec<Column>,
-    /// How many numbers of sticks have one column.
+    /// How many numbers share one column.
     pub bundle: usize,
 }
 
 /// The sums in a column that has any.
 pub struct Column {
-    /// The number that its sticks begin with.
+    /// The lowest number of the column.
     pub stick: usize,
     pub low: Area,
     pub high: Area,

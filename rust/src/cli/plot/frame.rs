@@ -42,7 +42,7 @@ pub struct Frame {
     pub across: Axis,
     /// Square samples.
     pub up: Axis,
-    /// The lowest number of a vertical stick.
+    /// The lowest number of a vertical edge.
     pub verticals_from: usize,
 }
 

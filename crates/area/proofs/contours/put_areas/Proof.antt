@@ -8,7 +8,7 @@ use Rattle.arith.proofs.Bounds.{sized, exact}
 use Rattle.grid.specs.Layer.{layerOf}
 use Rattle.contour.specs.Cursors.{left}
 use Rattle.contour.proofs.Cursors.{here-stick, fewer}
-use Rattle.shoelace.specs.Adds.{Measurable}
+use Rattle.shoelace.specs.Adds.{HeldStick}
 use Rattle.area.proofs.Summing.{area-small}
 use Rattle.area.proofs.Storing.{PartMeasured, measured-few, measured-start, measured-room, measured-turn, measured-end}
 use Rattle.area.proofs.contours.put_areas.Statement.{statement}
@@ -25,7 +25,7 @@ start c = c .before .before .before .before
 
 -- the contour that is next
 here : (c : tie.In-loop Inv-loop μ-loop)
-    → let a = start (c .before) .args in Measurable (layerOf (a .size) (a .bitmap .now)) (a .table .now) (c .before .loop .at .stick)
+    → let a = start (c .before) .args in HeldStick (layerOf (a .size) (a .bitmap .now)) (a .table .now) (c .before .loop .at .stick)
 here c =
     let given = start (c .before) .pre in
     record { accepted = given .0; stick = here-stick (given .1 .0) (c .before .loop .inv .placed) (c .loop-test .taken) }

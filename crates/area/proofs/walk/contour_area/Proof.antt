@@ -1,5 +1,5 @@
--- `contour_area` meets its contract. The invariant: what is summed, what the drawn edge adds that leads on from the last kept vertex, and what those
--- add that start later make the whole. `start` is where the call began, `work` what a turn does.
+-- `contour_area` meets its contract. The invariant: what is summed, what the drawn edge that leads on from the last kept vertex adds, and what those that
+-- start later add make the whole. `start` is where the call began, `work` what a turn does.
 use mathlib.Core.Path.{sym, ap, _∙_}
 use mathlib.Core.Logic.{inl, inr}
 use mathlib.Core.Bool.{true≢false}
@@ -15,7 +15,7 @@ use Rattle.contour.specs.Walk.{rest}
 use Rattle.contour.specs.Contours.{walkOf}
 use Rattle.table.specs.Vertices.{isKept, keptAt, offsetAt}
 use Rattle.table.proofs.Lent.{has-entry}
-use Rattle.shoelace.specs.Adds.{Measurable}
+use Rattle.shoelace.specs.Adds.{HeldStick}
 use Rattle.area.proofs.Summing.{PartSummed, summed-start, summed-here, summed-less, summed-small, Closing, Turned, summed-turn, summed-end, closing-small, passed-kept, area-found}
 use Rattle.area.proofs.walk.contour_area.Statement.{statement}
 use Rattle.area.proofs.walk.contour_area.Tie as tie
@@ -86,7 +86,7 @@ closing c =
 
 given-at : (c : tie.Then2 Inv-loop μ-loop)
     → let a = start (c .before .before .before .before .before .before) .args in
-    Measurable (layerOf (a .size) (a .bitmap .now)) (a .table .now) (a .first)
+    HeldStick (layerOf (a .size) (a .bitmap .now)) (a .table .now) (a .first)
 given-at c = start (c .before .before .before .before .before .before) .pre
 
 add-result : tie.Need-add-result Inv-loop μ-loop

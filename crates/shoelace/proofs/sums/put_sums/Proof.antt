@@ -1,8 +1,7 @@
 -- `put_sums` meets its contract: the horizontal edges, then the vertical ones.
+use mathlib.Core.Path.{_∙_}
 use borrow.Author.Needs.{needs}
-use mir.Syntax.{w64}
-use mir.Val.{toZ, ofZ}
-use Rattle.arith.proofs.Bounds.{sized, exact}
+use Rattle.arith.proofs.Bounds.{sized, exact, within}
 use Rattle.shoelace.proofs.Running.{all-start, all-middle, all-end}
 use Rattle.shoelace.proofs.sums.put_sums.Statement.{statement}
 use Rattle.shoelace.proofs.sums.put_sums.Tie as tie
@@ -18,7 +17,7 @@ returns c =
     let one = two .before .before .before in
     let all = all-end (one .before .before .before .before .pre .0) (one .sums-of-kind .ensures) (two .sums-of-kind2 .ensures) in
     let small = all .small in
-    rw (exact {z = toZ w64 (ofZ w64 (two .sums-of-kind2 .result .sum))} (search sized depth 9) tt) all
+    record { put = all .put; last = exact (search sized depth 9) tt ∙ all .last; small = within (search sized depth 9) tt }
 
 pub put-sums-spec : {M : Type 1} → statement M
 put-sums-spec =
