@@ -1,32 +1,30 @@
--- Contours simplified one after the other: that counting may start from 0, and how many runs are tried and vertices removed. Over a layer
--- that is at most two runs, and one vertex, for each stick.
+-- Contours simplified one after the other: that counting may start from 0, and how many runs are tried and vertices removed. Each vertex that is removed
+-- spares two tries: with as many added, a contour of n sticks has 2·n - 2 of them, and a layer twice its sticks less twice its contours.
 use mathlib.Core.Path.{_≡_, refl, sym, _∙_, ap}
 use mathlib.Core.Bool.{true, false}
 use mathlib.Core.List.{List, [], _∷_, foldl, map, flatten}
 use Prim.Native.Nat.{ℕ, _+_, _-_, _*_, _≤_}
 use native.Mathlib.Omega.{arith}
-use lib.ListN.{length, length-append}
+use lib.ListN.{length, length-append, length-map}
 use Rattle.arith.proofs.Ranges.{count-le}
 use Rattle.grid.specs.Layer.{Layer}
 use Rattle.grid.specs.Edges.{edgeCount, stickAt}
 use Rattle.grid.specs.Questions.{Sound}
 use Rattle.grid.specs.declared.edge.Edge.{Edge}
 use Rattle.grid.proofs.Numbers.{edges-small}
+use Rattle.mask.specs.Counts.{stickCount}
 use Rattle.contour.specs.Walk.{rest, contour, firstsFrom}
-use Rattle.contour.specs.Contours.{walkOf, contourOf, firstSticks}
+use Rattle.contour.specs.Contours.{walkOf, contourOf, firstSticks, contourCount}
 use Rattle.contour.specs.Sets.{FirstSet}
 use Rattle.contour.specs.Cursors.{left, Placed, Opened, Moved}
 use Rattle.contour.specs.declared.cursor.Cursor.{Cursor}
 use Rattle.contour.proofs.Cursors.{here-left, none-left, fold-turn, fold-end}
-use Rattle.contour.proofs.Theorems.{total-length}
-use Rattle.run.specs.Runs.{stickAfter}
+use Rattle.contour.proofs.Theorems.{total-length, AllSticks, head-stick, tail-sticks, firsts-sticks}
+use Rattle.drawn.proofs.FourKept.{four-sticks}
+use Rattle.run.specs.Runs.{stickAfter, StickOf}
 use Rattle.simplify.specs.Runs.{Progress, half, tryRun, simplifyContour, simplify}
 use Rattle.simplify.specs.Parts.{begun}
-use Rattle.simplify.proofs.Trying.{onTop, CountBounds, bounds-none, bounds-then, bounds-wider, try-two, try-bounds, contour-runs}
-
-pub contour-some : (L : Layer) (f : Edge) → 1 ≤ length (contourOf L f)
-unfolding rest
-contour-some L f = omega arith
+use Rattle.simplify.proofs.Trying.{onTop, try-two, try-counts, try-length, contour-runs}
 
 module _ (L : Layer) (tolerance : ℕ) where
   pub contour-from : (s : Progress) (f : Edge)
@@ -43,39 +41,65 @@ module _ (L : Layer) (tolerance : ℕ) where
       sums : (x y z : ℕ) → x + y + z ≡ x + (0 + y + z)
       sums x y z = omega arith
 
-  -- at most two runs are tried, and one vertex removed, for each stick
-  pub contour-bounds : (s : Progress) (f : Edge) → let n = length (contourOf L f) in CountBounds (2 * n) n s (simplifyContour L tolerance s f)
-  contour-bounds s f =
+  pub contour-length : (s : Progress) (f : Edge) → length (simplifyContour L tolerance s f .table) ≡ length (s .table)
+  contour-length s f =
       let n : ℕ = length (contourOf L f) in
-      let one = try-bounds L tolerance n s f (half n) in
-      let two = try-bounds L tolerance n (tryRun L tolerance n s f (half n)) (stickAfter L (half n) f) (n - half n) in
-      let some = contour-some L f in
-      rw (contour-runs L tolerance s f) (bounds-wider (omega arith) (omega arith) (bounds-then one two))
+      rw (contour-runs L tolerance s f)
+      (try-length L tolerance n (tryRun L tolerance n s f (half n)) (stickAfter L (half n) f) (n - half n) ∙ try-length L tolerance n s f (half n))
 
-  -- the contours of some first sticks
-  pub contours-bounds : (l : List Edge) (s : Progress) → let n = length (flatten (map (contour (walkOf L)) l)) in
-      CountBounds (2 * n) n s (foldl (simplifyContour L tolerance) s l)
+  -- a contour
+  pub contour-counts : {f : Edge} → StickOf L f → (s : Progress) → let n : ℕ = length (contourOf L f) in
+      let r : Progress = simplifyContour L tolerance s f in r .tried + 2 * r .removed ≡ s .tried + 2 * s .removed + (2 * n - 2)
+  contour-counts {f} of s =
+      let n : ℕ = length (contourOf L f) in
+      let four = four-sticks L (of .sound) f (of .stick) in
+      let one = try-counts L tolerance n s f (half n) (omega arith) (omega arith) in
+      let two = try-counts L tolerance n (tryRun L tolerance n s f (half n)) (stickAfter L (half n) f) (n - half n) (omega arith) (omega arith) in
+      rw (contour-runs L tolerance s f) (omega (arith, one, two))
+
+  -- the contours of some first sticks: they have no fewer sticks than there are contours,
+  contours-long : (l : List Edge) → length l ≤ length (flatten (map (contour (walkOf L)) l))
+  unfolding flatten rest
+  contours-long [] = omega arith
+  contours-long (f ∷ l) = omega (arith, length-append (contourOf L f) (flatten (map (contour (walkOf L)) l)), contours-long l)
+
+  contours-counts : Sound L → (l : List Edge) → AllSticks L l → (s : Progress) → let n : ℕ = length (flatten (map (contour (walkOf L)) l)) in
+      let r : Progress = foldl (simplifyContour L tolerance) s l in r .tried + 2 * r .removed ≡ s .tried + 2 * s .removed + (2 * n - 2 * length l)
   unfolding flatten
-  contours-bounds [] s = bounds-none
-  contours-bounds (f ∷ l) s =
+  contours-counts sound [] sticks s = omega arith
+  contours-counts sound (f ∷ l) sticks s =
+      let here : StickOf L f = record { sound = sound; stick = head-stick sound f l sticks } in
+      let four = four-sticks L sound f (here .stick) in
       let sum = length-append (contourOf L f) (flatten (map (contour (walkOf L)) l)) in
-      bounds-wider (omega (arith, sum)) (omega (arith, sum)) (bounds-then (contour-bounds s f) (contours-bounds l (simplifyContour L tolerance s f)))
+      let later = contours-counts sound l (tail-sticks sound f l sticks) (simplifyContour L tolerance s f) in
+      omega (arith, contour-counts here s, later, sum, contours-long l)
+
+  -- and both counts only grow
+  contours-more : (l : List Edge) (s : Progress) → let r : Progress = foldl (simplifyContour L tolerance) s l in
+      (s .removed ≤ r .removed) × (s .tried ≤ r .tried)
+  contours-more [] s = (omega arith, omega arith)
+  contours-more (f ∷ l) s =
+      let from = contour-from s f in
+      let later = contours-more l (simplifyContour L tolerance s f) in
+      (omega (arith, ap (λ (x : Progress). x .removed) from, later .0), omega (arith, ap (λ (x : Progress). x .tried) from, later .1))
 
   pub simplify-is : (t : List ℕ) → simplify L tolerance t ≡ foldl (simplifyContour L tolerance) (begun t) (firstSticks L)
   unfolding simplify
   simplify-is t = refl
 
-  pub simplify-length : (t : List ℕ) → length (simplify L tolerance t .table) ≡ length t
-  simplify-length t = rw (simplify-is t) (contours-bounds (firstSticks L) (begun t) .same-length)
-
   -- over the layer
+  pub simplify-counts : Sound L → (t : List ℕ) → let r : Progress = simplify L tolerance t in
+      r .tried + 2 * r .removed ≡ 2 * stickCount L - 2 * contourCount L
+  simplify-counts sound t =
+      let counts = contours-counts sound (firstSticks L) (firsts-sticks sound) (begun t) in
+      rw (simplify-is t) (omega (arith, counts, total-length L sound, length-map (firstSticks L) (contourOf L)))
+
   pub simplify-small : Sound L → (t : List ℕ) → (simplify L tolerance t .removed ≤ 2095104) × (simplify L tolerance t .tried ≤ 4190208)
   simplify-small sound t =
-      let w = contours-bounds (firstSticks L) (begun t) in
-      let all = total-length L sound in
+      let counts = simplify-counts sound t in
       let most = count-le (stickAt L) (edgeCount (L .size)) in
       let small = edges-small (L .size) (sound .whole .sized) in
-      rw (simplify-is t) (omega (arith, w, all, most, small), omega (arith, w, all, most, small))
+      (omega (arith, counts, most, small), omega (arith, counts, most, small))
 
 -- What the loop over the contours cites: simplifying those that are left, on top of what is done, simplifies the layer. r is what the code finds of
 -- one contour, counted from 0.
@@ -105,7 +129,7 @@ module _ {L : Layer} {tolerance : ℕ} {t : List ℕ} {s : Progress} {c : Cursor
         record {
           placed = moved .placed;
           same-length = ap (λ (x : Progress). length (x .table)) found
-              ∙ contour-bounds L tolerance (begun (s .table)) (c .stick) .same-length
+              ∙ contour-length L tolerance (begun (s .table)) (c .stick)
               ∙ now .same-length;
           gives = turned (left L c′) (moved .left);
         }
@@ -114,7 +138,7 @@ module _ {L : Layer} {tolerance : ℕ} {t : List ℕ} {s : Progress} {c : Cursor
     pub turned-most : {set : List ℕ} → FirstSet L set → c .more ≡ true → (s .removed + r .removed ≤ 2095104) × (s .tried + r .tried ≤ 4190208)
     turned-most set more =
         let later = firstsFrom (walkOf L) (c .number + 1) in
-        let w = rw (turned later (here-left set (now .placed) more)) at (contours-bounds L tolerance later (onTop s r)) in
+        let w = rw (turned later (here-left set (now .placed) more)) at (contours-more L tolerance later (onTop s r)) in
         let small = simplify-small L tolerance (set .sound) t in
         (omega (arith, w, small), omega (arith, w, small))
 

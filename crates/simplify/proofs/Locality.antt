@@ -23,7 +23,7 @@ use Rattle.run.proofs.Local.{on-steps, inner-elsewhere, same-passes, inner-agre
 use Rattle.simplify.specs.Runs.{Progress, half, oneTried, tryRun, simplifyContour}
 use Rattle.simplify.specs.Parts.{begun}
 use Rattle.simplify.proofs.Trying.{onTop, inner-is, try-passes, try-splits, try-none, contour-runs}
-use Rattle.simplify.proofs.Layers.{contour-from, contour-bounds}
+use Rattle.simplify.proofs.Layers.{contour-from, contour-length}
 
 module _ (L : Layer) (sound : Sound L) (f : Edge) (stick : isStick L f ≡ true) where
   -- What simplifying changes
@@ -96,7 +96,7 @@ module _ (L : Layer) (sound : Sound L) (f : Edge) (stick : isStick L f ≡ true)
     pub simplifyContour-local : Local L f (λ t. simplifyContour L tolerance (begun t) f .table)
     simplifyContour-local =
         record {
-          same-length = λ t. contour-bounds L tolerance (begun t) f .same-length;
+          same-length = λ t. contour-length L tolerance (begun t) f;
           elsewhere = λ t k off. simplifyContour-elsewhere tolerance (begun t) k off;
           agrees = λ t u a. simplifyContour-agree (begun t) (begun u) a .agree;
         }

@@ -20,8 +20,8 @@ use Rattle.simplify.specs.Runs.{Progress, half, oneTried, tryRun, simpli
 use Rattle.simplify.specs.Parts.{begun, runTo}
 use Rattle.simplify.specs.Waiting.{waitsOfRun, waitsOf}
 use Rattle.simplify.specs.declared.tries.Run.{Run}
-use Rattle.simplify.proofs.Trying.{Split, split, split-of, inner-is, try-passes, try-splits, try-deep, try-bounds, contour-runs}
-use Rattle.simplify.proofs.Layers.{contour-bounds}
+use Rattle.simplify.proofs.Trying.{Split, split, split-of, inner-is, try-passes, try-splits, try-from, try-deep, contour-runs}
+use Rattle.simplify.proofs.Layers.{contour-counts}
 use Rattle.simplify.proofs.Waiting.{waits-first, waits-passes, waits-splits, waits-deep, waits-contour, contour-few}
 
 deep : {m : ℕ} → 1 ≤ m → m ≡ suc (m - 1)
@@ -56,9 +56,9 @@ module _ (L : Layer) (tolerance : ℕ) where
   all-more : (s : Progress) (e : Edge) (l : List Run) → (s .removed ≤ tryAll s e l .removed) × (s .tried ≤ tryAll s e l .tried)
   all-more s e [] = (omega arith, omega arith)
   all-more s e (r ∷ l) =
-      let w = try-bounds L tolerance (r .edges) s e (r .edges) in
+      let from = try-from L tolerance (r .edges) s e (r .edges) in
       let m = all-more (tryOne s e (r .edges)) (r .end) l in
-      (omega (arith, w .removed-least, m .0), omega (arith, w .tried-least, m .1))
+      (omega (arith, ap (λ (x : Progress). x .removed) from, m .0), omega (arith, ap (λ (x : Progress). x .tried) from, m .1))
 
   -- the parts of a run of m edges from e, each tried at the depth of its own edges, as both tried at a depth that is enough
   module _ (depth : ℕ) (s : Progress) (e : Edge) {m : ℕ} (parts : Split m) (enough : m ≤ suc depth) where
@@ -254,6 +254,6 @@ module _ {L : Layer} {f : Edge} {n : ℕ} (contour : HasSticks L f n) where
         → (s .removed ≤ 2095104) × (s .tried ≤ 4190208) × (s .tried ≤ simplifyContour L tolerance (begun t₀) f .tried)
     left-small s e p l now =
         let a = rw (now .gives) at (all-more L tolerance s e l) in
-        let w = contour-bounds L tolerance (begun t₀) f in
+        let counts = contour-counts L tolerance (record { sound = contour .sound; stick = contour .stick }) (begun t₀) in
         let c = most-sticks contour in
-        (omega (arith, a .0, w .removed-most, contour .all), omega (arith, a .1, w .tried-most, contour .all), a .1)
+        (omega (arith, a .0, counts, contour .all), omega (arith, a .1, counts, contour .all), a .1)

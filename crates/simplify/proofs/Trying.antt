@@ -1,5 +1,5 @@
--- What trying a run does: it passes, or it is split. How many runs are tried and vertices removed, that counting may start from 0, that a
--- depth beyond the number of edges changes nothing, and that the table keeps its length.
+-- What trying a run does: it passes, or it is split. That counting may start from 0, that a depth beyond the number of edges changes nothing, how many
+-- runs are tried and vertices removed, and that the table keeps its length.
 use mathlib.Core.Path.{_≡_, refl, sym, _∙_, ap}
 use mathlib.Core.Bool.{Bool, true, false, true≢false}
 use mathlib.Core.List.{List, [], _∷_, foldl}
@@ -59,53 +59,6 @@ split L t tolerance e n f = split-of n (elim (decLe n 1) [
   | yes h ↦ absurd (true≢false (sym (passes-short L t tolerance e n h) ∙ f))
   | no g ↦ omega arith
 ])
-
--- from s to r at most so many runs are tried and so many vertices removed, and the table keeps its length
-pub record CountBounds (tries removals : ℕ) (s r : Progress) : Type 0 where
-  pub tried-least : s .tried ≤ r .tried
-  pub tried-most : r .tried ≤ s .tried + tries
-  pub removed-least : s .removed ≤ r .removed
-  pub removed-most : r .removed ≤ s .removed + removals
-  pub same-length : length (r .table) ≡ length (s .table)
-
-pub bounds-none : {a b : ℕ} {s : Progress} → CountBounds a b s s
-bounds-none =
-    record { tried-least = omega arith; tried-most = omega arith; removed-least = omega arith; removed-most = omega arith; same-length = refl }
-
-pub bounds-then : {a b c d : ℕ} {s m r : Progress} → CountBounds a b s m → CountBounds c d m r → CountBounds (a + c) (b + d) s r
-bounds-then one two =
-    record {
-      tried-least = omega (arith, one, two);
-      tried-most = omega (arith, one, two);
-      removed-least = omega (arith, one, two);
-      removed-most = omega (arith, one, two);
-      same-length = two .same-length ∙ one .same-length;
-    }
-
-pub bounds-wider : {a b a′ b′ : ℕ} {s r : Progress} → a ≤ a′ → b ≤ b′ → CountBounds a b s r → CountBounds a′ b′ s r
-bounds-wider more-tries more-removals one =
-    record {
-      tried-least = one .tried-least;
-      tried-most = omega (arith, one);
-      removed-least = one .removed-least;
-      removed-most = omega (arith, one);
-      same-length = one .same-length;
-    }
-
-bounds-tried : {s : Progress} → CountBounds 1 0 s (oneTried s)
-bounds-tried =
-    record { tried-least = omega arith; tried-most = omega arith; removed-least = omega arith; removed-most = omega arith; same-length = refl }
-
-bounds-inner : (L : Layer) (s : Progress) (e : Edge) (n : ℕ) → CountBounds 0 (n - 1) s (removeInner L s e n)
-unfolding removeInner
-bounds-inner L s e n =
-    record {
-      tried-least = omega arith;
-      tried-most = omega arith;
-      removed-least = omega arith;
-      removed-most = omega arith;
-      same-length = length-inner L (between L e n) (s .table);
-    }
 
 module _ (L : Layer) (tolerance : ℕ) where
   by-passes : ℕ → Progress → Edge → ℕ → Bool → Progress
@@ -201,18 +154,27 @@ module _ (L : Layer) (tolerance : ℕ) where
       (omega (arith, p)) (omega (arith, p)) (omega (arith, p)) (omega (arith, p))
       ∙ sym (try-splits d′ s e n f))
 
-  pub try-bounds : (depth : ℕ) (s : Progress) (e : Edge) (n : ℕ) → CountBounds (1 + 2 * (n - 1)) (n - 1) s (tryRun L tolerance depth s e n)
-  try-bounds zero s e n = rw (try-none s e n) bounds-none
-  try-bounds (suc depth) s e n = both-sides (passes L (s .table) tolerance e n)
-      (λ y.
-      rw (try-passes depth s e n y)
-      (bounds-wider (omega arith) (omega arith) (bounds-then bounds-tried (bounds-inner L (oneTried s) e n))))
+  -- each vertex that is removed spares two tries
+  pub try-counts : (depth : ℕ) (s : Progress) (e : Edge) (n : ℕ) → 1 ≤ n → n ≤ depth → let r : Progress = tryRun L tolerance depth s e n in
+      r .tried + 2 * r .removed ≡ s .tried + 2 * s .removed + (2 * n - 1)
+  try-counts zero s e n some deep = absurd (omega arith)
+  try-counts (suc depth) s e n some deep = both-sides (passes L (s .table) tolerance e n)
+      (λ y. rw (try-passes depth s e n y, inner-is L (oneTried s) e n) (omega arith))
       (λ f.
       let p = split L (s .table) tolerance e n f in
-      let one = try-bounds depth (oneTried s) e (half n) in
-      let two = try-bounds depth (tryRun L tolerance depth (oneTried s) e (half n)) (stickAfter L (half n) e) (n - half n) in
+      let m : Progress = tryRun L tolerance depth (oneTried s) e (half n) in
+      let one = try-counts depth (oneTried s) e (half n) (p .first-some) (omega (arith, p)) in
+      let two = try-counts depth m (stickAfter L (half n) e) (n - half n) (p .second-some) (omega (arith, p)) in
+      rw (try-splits depth s e n f) (omega (arith, one, two, p)))
+
+  pub try-length : (depth : ℕ) (s : Progress) (e : Edge) (n : ℕ) → length (tryRun L tolerance depth s e n .table) ≡ length (s .table)
+  try-length zero s e n = rw (try-none s e n) refl
+  try-length (suc depth) s e n = both-sides (passes L (s .table) tolerance e n)
+      (λ y. rw (try-passes depth s e n y, inner-is L (oneTried s) e n) (length-inner L (between L e n) (s .table)))
+      (λ f.
       rw (try-splits depth s e n f)
-      (bounds-wider (omega (arith, p)) (omega (arith, p)) (bounds-then bounds-tried (bounds-then one two))))
+      (try-length depth (tryRun L tolerance depth (oneTried s) e (half n)) (stickAfter L (half n) e) (n - half n)
+      ∙ try-length depth (oneTried s) e (half n)))
 
   -- a contour
   pub contour-runs : (s : Progress) (f : Edge) → let n : ℕ = length (contourOf L f) in simplifyContour L tolerance s f

@@ -8,23 +8,23 @@ use Prim.Native.Nat.{ℕ, _≤_, _<_}
 use native.Mathlib.Omega.{arith}
 use lib.ListN.{length}
 use Rattle.arith.specs.Booleans.{asNumber}
-use Rattle.arith.proofs.Booleans.{both-sides, one-le}
+use Rattle.arith.proofs.Booleans.{both-sides}
 use Rattle.grid.specs.Layer.{Layer}
 use Rattle.grid.specs.Edges.{edgeCount, isStick}
 use Rattle.grid.specs.Questions.{Sound}
 use Rattle.grid.specs.declared.edge.Edge.{Edge}
 use Rattle.contour.specs.Walk.{occurrences, first, OnContour}
-use Rattle.contour.specs.Contours.{walkOf, sameEdge, firstSticks, EachFirstOnce}
-use Rattle.contour.proofs.Orbit.{same-true, unlike}
+use Rattle.contour.specs.Contours.{walkOf, firstSticks, EachFirstOnce}
 use Rattle.contour.proofs.First.{first-one}
 use Rattle.contour.proofs.Sticks.{laws}
 use Rattle.contour.proofs.Orders.{reordered, first-sticks-once}
-use Rattle.table.proofs.Local.{entry, Agree, agree-other, local-commute}
+use Rattle.table.proofs.Local.{entry, Local, agree-other, local-commute}
+use Rattle.table.proofs.InTurn.{PartDone, part-start, part-first, part-here, part-turn}
 use Rattle.smooth.specs.Smooth.{Smoothed, smoothContour, noContour, withContour, inTurn, smooth}
 use Rattle.smooth.specs.Call.{asked, smoothOf}
 use Rattle.smooth.proofs.Held.{same-call}
 use Rattle.smooth.proofs.Passes.{smoothNext, smooth-is}
-use Rattle.smooth.proofs.Locality.{SameAnswer, smoothContour-length, smoothContour-agree, smoothContour-local, other-contour}
+use Rattle.smooth.proofs.Locality.{SameAnswer, smoothContour-length, smoothContour-agree, smoothContour-local}
 
 swap-last : (a b c : Bool) → (a && b && c) ≡ (a && c && b)
 swap-last a b c = and-assoc a b c ∙ ap (λ (d : Bool). a && d) (and-comm b c) ∙ sym (and-assoc a c b)
@@ -94,67 +94,41 @@ module _ (L : Layer) (sound : Sound L) (limit : ℕ) where
   abbrev pub eachAlone : List ℕ → Smoothed
   eachAlone t = foldl (λ s f. withContour s (smoothContour L limit t f)) (noContour t) (firstSticks L)
 
-  -- after smoothing the contour of f the table agrees, on the contour of g, with what it agreed with before
-  other-agree : (f g : Edge) → IsFirst f → IsFirst g → f ≢ g → (s : Smoothed) {u : List ℕ} → Agree L g (s .table) u
-      → Agree L g (smoothNext L limit s f .table) u
-  other-agree f g first-f first-g differ s a =
-      record {
-        whole₁ = next-length s f first-f ∙ a .whole₁;
-        whole₂ = a .whole₂;
-        same-entry = λ e on. other-contour L sound f g first-f first-g differ limit (s .table) e on ∙ a .same-entry e on;
-      }
+  -- smoothing a contour, from table to table
+  abbrev smoothTable : Edge → List ℕ → List ℕ
+  smoothTable f u = smoothContour L limit u f .table
+
+  locally : (f : Edge) → IsFirst f → Local L f (smoothTable f)
+  locally f is = smoothContour-local L sound f (first-stick f is) limit
 
   module _ (t : List ℕ) (whole : length t ≡ edgeCount (L .size)) where
-    -- where smoothing the layer stands when the contours of a list are left: they are as lent, all others as smoothed alone, and the answer so far is
-    -- that of those alone
+    -- where smoothing the layer stands when the contours of a list are left, and the answer so far is that of the others, each smoothed alone
     record Part (l : List Edge) (s r : Smoothed) : Type 0 where
-      once : (f : Edge) → occurrences (walkOf L) f l ≤ asNumber (first (walkOf L) f)
-      left : (f : Edge) → 0 < occurrences (walkOf L) f l → Agree L f (s .table) t
-      done : (f : Edge) → IsFirst f → occurrences (walkOf L) f l ≡ 0 → Agree L f (s .table) (smoothContour L limit t f .table)
+      tables : PartDone sound smoothTable locally t l (s .table)
       answer : SameAnswer s r
-
-    part-start : Part (firstSticks L) (noContour t) (noContour t)
-    part-start =
-        let once = first-sticks-once L sound in
-        record {
-          once = λ f. omega (arith, once f);
-          left = λ f o. record { whole₁ = whole; whole₂ = whole; same-entry = λ e on. refl };
-          done = λ f is none. absurd (omega (arith, once f, ap asNumber is));
-          answer = record { same-passes = refl; same-total = refl; same-settled = refl };
-        }
-
-    part-turn : (f : Edge) (l : List Edge) (s r : Smoothed) → Part (f ∷ l) s r
-        → Part l (smoothNext L limit s f) (withContour r (smoothContour L limit t f))
-    unfolding occurrences
-    part-turn f l s r p =
-        let self = ap asNumber (laws L sound .same-self f) in
-        let first-f = is-first f (omega (arith, self)) (p .once f) in
-        let now = smoothContour-agree L sound f (first-stick f first-f) limit (p .left f (omega (arith, self))) in
-        record {
-          once = λ g. omega (arith, p .once g);
-          left = λ g o. other-agree f g first-f (is-first g o (omega (arith, p .once g)))
-              (λ q. omega (arith, p .once g, one-le (first (walkOf L) g), ap asNumber (same-true (walkOf L) (laws L sound) (sym q))))
-              s (p .left g (omega arith));
-          done = λ g first-g none. both-sides (sameEdge g f)
-              (λ y. rw (laws L sound .same-eq g f y) (now .agree))
-              (λ n. other-agree f g first-f first-g (λ q. unlike (walkOf L) (laws L sound) g f n (sym q)) s
-              (p .done g first-g (omega (arith, ap asNumber n))));
-          answer = with-same (p .answer) (now .answer);
-        }
 
     part-all : (l : List Edge) (s r : Smoothed) → Part l s r
         → Part [] (foldl (smoothNext L limit) s l) (foldl (λ q f. withContour q (smoothContour L limit t f)) r l)
     part-all [] s r p = p
-    part-all (f ∷ l) s r p = part-all l _ _ (part-turn f l s r p)
+    part-all (f ∷ l) s r p =
+        let now = smoothContour-agree L sound f (first-stick f (part-first sound smoothTable locally t (p .tables))) limit
+        (part-here sound smoothTable locally t (p .tables)) in
+        part-all l _ _ (record { tables = part-turn sound smoothTable locally t (p .tables); answer = with-same (p .answer) (now .answer) })
 
     smoothed-all : Part [] (smooth L limit t) (eachAlone t)
-    smoothed-all = rw (smooth-is L limit t) (part-all (firstSticks L) (noContour t) (noContour t) part-start)
+    smoothed-all =
+        rw (smooth-is L limit t)
+        (part-all (firstSticks L) (noContour t) (noContour t)
+        (record {
+          tables = part-start sound smoothTable locally t whole;
+          answer = record { same-passes = refl; same-total = refl; same-settled = refl };
+        }))
 
     -- each contour ends as if it had been smoothed alone, from the table as it was lent
     pub contour-alone : (f : Edge) → IsFirst f → (e : Edge) → OnContour (walkOf L) f e
         → entry L (smooth L limit t .table) e ≡ entry L (smoothContour L limit t f .table) e
     unfolding occurrences
-    contour-alone f first-f e on = smoothed-all .done f first-f refl .same-entry e on
+    contour-alone f first-f e on = smoothed-all .tables .done f first-f refl .same-entry e on
 
     -- so the answer is "the largest number of passes of any contour, the sum of their last totals, and settled if all are", of the contours each
     -- smoothed alone

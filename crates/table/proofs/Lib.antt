@@ -9,4 +9,5 @@ pub mod AllKept
 pub mod Stores
 pub mod Pins
 pub mod Local
+pub mod InTurn
 pub mod Lent

@@ -35,6 +35,9 @@ pub record Agree (L : Layer) (f : Edge) (t u : List ℕ) : Type 0 where
   pub whole₂ : length u ≡ edgeCount (L .size)
   pub same-entry : (e : Edge) → OnContour (walkOf L) f e → entry L t e ≡ entry L u e
 
+pub agree-then : {L : Layer} {f : Edge} {t u v : List ℕ} → Agree L f t u → Agree L f u v → Agree L f t v
+agree-then a b = record { whole₁ = a .whole₁; whole₂ = b .whole₂; same-entry = λ e on. a .same-entry e on ∙ b .same-entry e on }
+
 -- the entry k is none of the contour of f
 abbrev pub Off : Layer → Edge → ℕ → Type 0
 Off L f k = (e : Edge) → OnContour (walkOf L) f e → k ≢ number (L .size) e
