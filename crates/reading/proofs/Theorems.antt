@@ -1,4 +1,5 @@
--- What reading a sheet leaves: the table that it describes, which is that of an accepted layer, or the table as found.
+-- What reading a sheet leaves: the table that it describes, which is that of an accepted layer, or the table as found; and that the table at exit is
+-- the outcome's.
 use mathlib.Core.Path.{_≡_, refl, ap}
 use mathlib.Core.List.{List, [], _∷_, _++_}
 use Prim.Native.Nat.{ℕ, _<_}
@@ -15,7 +16,9 @@ use Rattle.table.proofs.Lengths.{lengths-of}
 use Rattle.held.specs.Held.{heldAnswer}
 use Rattle.held.specs.Questions.{Accepted}
 use Rattle.formed.specs.Expected.{sheetAnswer}
-use Rattle.reading.specs.Reading.{described, Outcome, readOf}
+use Rattle.reading.specs.Reading.{described, Outcome, readOf, outcome}
+use Rattle.reading.specs.declared.read.SheetRead.{SheetRead}
+use Rattle.reading.specs.declared.read.SheetRead.the-variants as SheetRead
 use Rattle.reading.specs.Places.{answeredBy}
 use Rattle.reading.proofs.Described.{described-length}
 use Rattle.reading.proofs.Vertices.{described-entries}
@@ -81,3 +84,8 @@ module _ (L : Layer) (t s : List ℕ) where
     | yes done ↦ read-opens bytes done
     | no refused ↦ rw (read-refused refused) accepted
   ]
+
+  -- the table at exit, whatever the answer
+  pub read-leaves : {u : List ℕ} (r : SheetRead) → outcome r u ≡ readOf L t s → u ≡ readOf L t s .table
+  read-leaves SheetRead.Done promised = λ i. promised i .table
+  read-leaves (SheetRead.Refused q place) promised = λ i. promised i .table

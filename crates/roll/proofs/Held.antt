@@ -1,5 +1,5 @@
 -- A layer that passes questions 1 to 7 passes them after Roll too, for every roll and tolerance: done, refused, or stopped partway. And whatever
--- is lent, Roll leaves every pinned entry as it is.
+-- is lent, Roll leaves every pinned entry as it is; and the table at exit is the outcome's.
 use mathlib.Core.Path.{_≡_, refl}
 use mathlib.Core.List.{List, [], _∷_, _++_}
 use Prim.Native.Nat.{ℕ, zero, suc, _+_}
@@ -14,7 +14,9 @@ use Rattle.table.proofs.Pins.{pins-same, pins-then, pin-pins}
 use Rattle.held.specs.Questions.{heldQuestions, Accepted}
 use Rattle.roll.specs.Commands.{Command, commandAt, rollAnswer, slides, removes, pins, ends, wrong}
 use Rattle.edit.specs.Edits.{Named, edgeNamed, slideAnswer, removalAnswer, pinAnswer}
-use Rattle.roll.specs.Roll.{Outcome, runFrom, rollOf}
+use Rattle.roll.specs.Roll.{Outcome, runFrom, rollOf, outcome}
+use Rattle.roll.specs.declared.rolling.Rolled.{Rolled}
+use Rattle.roll.specs.declared.rolling.Rolled.the-variants as Rolled
 use Rattle.edit.proofs.Asked.{slide-keeps, slide-pins, removal-keeps, removal-pins, pin-keeps}
 use Rattle.roll.proofs.Steps.{run-by, refused}
 
@@ -70,3 +72,8 @@ module _ (L : Layer) (tolerance : ℕ) (r : List ℕ) where
     remove = λ t i s stay all. pins-then stay (removal-pins L tolerance t i s all);
     pin = λ t i s stay all. pins-then stay (pin-pins L t (edgeNamed s));
   }) t₀ pins-same
+
+  -- the table at exit, whatever the answer
+  pub roll-leaves : (t : List ℕ) {u : List ℕ} (answer : Rolled) → outcome answer u ≡ rollOf L tolerance r t → u ≡ rollOf L tolerance r t .table
+  roll-leaves t (Rolled.Done n) promised = λ i. promised i .table
+  roll-leaves t (Rolled.Refused q place n) promised = λ i. promised i .table

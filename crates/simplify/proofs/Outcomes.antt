@@ -1,4 +1,4 @@
--- The outcome of the call, by what its questions are answered, and what a yes to all of them says.
+-- The outcome of the call, by what its questions are answered, what a yes to all of them says, and that the table at exit is the outcome's.
 use mathlib.Core.Path.{_≡_, ap}
 use mathlib.Core.List.{List}
 use Prim.Native.Nat.{ℕ}
@@ -10,7 +10,9 @@ use Rattle.table.proofs.AllKept.{AllKept, all-kept-of}
 use Rattle.held.specs.Questions.{keptQuestions, Accepted}
 use Rattle.held.proofs.Asking.{kept-of-yes}
 use Rattle.simplify.specs.Runs.{simplify}
-use Rattle.simplify.specs.Call.{Outcome, finished, simplifyOf}
+use Rattle.simplify.specs.Call.{Outcome, finished, simplifyOf, outcome}
+use Rattle.simplify.specs.declared.call.Simplified.{Simplified}
+use Rattle.simplify.specs.declared.call.Simplified.the-variants.{Done, Refused}
 
 module _ (L : Layer) (t : List ℕ) where
   pub outcome-is : (tolerance : ℕ) (answer : Answer) → firstNo (keptQuestions L t) ≡ answer
@@ -30,3 +32,8 @@ module _ (L : Layer) (t : List ℕ) where
       let both = kept-of-yes L t e in
       let accepted = both .0 in
       (accepted, all-kept-of L t (accepted .sound) (accepted .exact) (accepted .entries) (both .1))
+
+  -- the table at exit, whatever the answer
+  pub simplify-leaves : (tolerance : ℕ) {u : List ℕ} (r : Simplified) → outcome r u ≡ simplifyOf L tolerance t → u ≡ simplifyOf L tolerance t .table
+  simplify-leaves tolerance (Done removed tried) promised = λ i. promised i .table
+  simplify-leaves tolerance (Refused q place) promised = λ i. promised i .table

@@ -21,10 +21,10 @@ use Rattle.trace.specs.declared.tracing.Traced.{Traced}
 use Rattle.trace.specs.declared.tracing.Traced.the-variants as Traced
 use Rattle.smooth.specs.Call as Smooth
 use Rattle.smooth.specs.declared.smoothing.Smoothing.{Smoothing}
-use Rattle.smooth.specs.declared.smoothing.Smoothing.the-variants as Smoothing
+use Rattle.smooth.proofs.Held.{smooth-leaves}
 use Rattle.simplify.specs.Call as Simplify
 use Rattle.simplify.specs.declared.call.Simplified.{Simplified}
-use Rattle.simplify.specs.declared.call.Simplified.the-variants as Simplified
+use Rattle.simplify.proofs.Outcomes.{simplify-leaves}
 use Rattle.sheet.specs.Written as Sheet
 use Rattle.sheet.specs.Written.{sheetOf}
 use Rattle.sheet.specs.declared.write.Written.{Written}
@@ -32,23 +32,13 @@ use Rattle.sheet.specs.declared.write.Written.the-variants as Written
 use Rattle.sheet.proofs.Answered.{written-done}
 use Rattle.slicing.specs.Slice.{sizeLetter, commandLength, wholeCommand, numberAt, sidesFit, refusedBytes, passLimit, tolerance, refined, bytesAfter, layerBytes, sliceOf, stored, outcome}
 
--- the table at exit is the one of the outcome
-smoothed-table : (r : Smoothing) (t : List ℕ) → t ≡ Smooth.outcome r t .table
-smoothed-table (Smoothing.Done passes total settled) t = refl
-smoothed-table (Smoothing.Refused q place) t = refl
-
-simplified-table : (r : Simplified) (t : List ℕ) → t ≡ Simplify.outcome r t .table
-simplified-table (Simplified.Done removed tried) t = refl
-simplified-table (Simplified.Refused q place) t = refl
-
 -- Smooth and then Simplify: t, t₁ and t₂ are the tables before, between and after
 pub refined-is : (L : Layer) (t t₁ t₂ : List ℕ) (s : Smoothing) (r : Simplified)
     → Smooth.outcome s t₁ ≡ Smooth.smoothOf L passLimit t → Simplify.outcome r t₂ ≡ Simplify.simplifyOf L tolerance t₁ → t₂ ≡ refined L t
 unfolding refined
 refined-is L t t₁ t₂ s r smoothed simplified =
-    simplified-table r t₂
-    ∙ ap (λ (o : Simplify.Outcome). o .table) simplified
-    ∙ ap (λ (u : List ℕ). Simplify.simplifyOf L tolerance u .table) (smoothed-table s t₁ ∙ ap (λ (o : Smooth.Outcome). o .table) smoothed)
+    simplify-leaves L t₁ tolerance r simplified
+    ∙ ap (λ (u : List ℕ). Simplify.simplifyOf L tolerance u .table) (smooth-leaves L passLimit t s smoothed)
 
 -- the outcome of Trace, by its answer r, and the bytes after it
 module _ (L : Layer) (t : List ℕ) (r : Traced) (o : Trace.Outcome) (asked : Trace.outcome r t ≡ o) where

@@ -14,7 +14,9 @@ use Rattle.held.specs.Questions.{keptQuestions, Accepted}
 use Rattle.held.proofs.Holding.{all-kept-accepted}
 use Rattle.held.proofs.Asking.{kept-of-yes}
 use Rattle.smooth.specs.Smooth.{Smoothed, smooth, Smoothable}
-use Rattle.smooth.specs.Call.{Outcome, refusedWith, doneWith, answered, asked, smoothOf}
+use Rattle.smooth.specs.Call.{Outcome, refusedWith, doneWith, answered, asked, smoothOf, outcome}
+use Rattle.smooth.specs.declared.smoothing.Smoothing.{Smoothing}
+use Rattle.smooth.specs.declared.smoothing.Smoothing.the-variants as Smoothing
 use Rattle.smooth.proofs.Walking.{smoothable-kept}
 use Rattle.smooth.proofs.Rounds.{smooth-kept}
 
@@ -37,6 +39,11 @@ module _ (L : Layer) (limit : ℕ) (t : List ℕ) where
 
   pub outcome-refused : {q : Refusal} {place : ℕ} → firstNo (keptQuestions L t) ≡ No q place → refusedWith q place t ≡ smoothOf L limit t
   outcome-refused {q} {place} e = sym (outcome-is L limit t (No q place) e)
+
+  -- the table at exit, whatever the answer
+  pub smooth-leaves : {u : List ℕ} (r : Smoothing) → outcome r u ≡ smoothOf L limit t → u ≡ smoothOf L limit t .table
+  smooth-leaves (Smoothing.Done passes total settled) promised = λ i. promised i .table
+  smooth-leaves (Smoothing.Refused q place) promised = λ i. promised i .table
 
 -- two rules that give the same on tables with all vertices kept make the same call, whatever is lent
 pub same-call : (L : Layer) (t : List ℕ) (one other : Smoothed) → (Sound L → AllKept L t → one ≡ other)

@@ -1,4 +1,4 @@
--- What Trace and Counts answer, by the answer to questions 1 to 5.
+-- What Trace and Counts answer, by the answer to questions 1 to 5, and that the table at exit is the outcome's.
 use mathlib.Core.Path.{_≡_}
 use mathlib.Core.List.{List}
 use Prim.Native.Nat.{ℕ}
@@ -16,6 +16,7 @@ use Rattle.table.specs.Entries.{lengthQuestions}
 use Rattle.table.proofs.Lengths.{lengths-of}
 use Rattle.trace.specs.Trace.{tracedEntry, traceOf, outcome}
 use Rattle.trace.specs.Counts.{countsOf, figuresOf}
+use Rattle.trace.specs.declared.tracing.Traced.{Traced}
 use Rattle.trace.specs.declared.tracing.Traced.the-variants as Traced
 use Rattle.trace.specs.declared.counting.Counted.the-variants as Counted
 
@@ -29,6 +30,11 @@ module _ (L : Layer) (t : List ℕ) where
       → outcome (Traced.Refused q place) t ≡ traceOf L t
   unfolding traceOf
   trace-refused e = rw e
+
+  -- the table at exit, whatever the answer
+  pub trace-leaves : {u : List ℕ} (r : Traced) → outcome r u ≡ traceOf L t → u ≡ traceOf L t .table
+  trace-leaves Traced.Done promised = λ i. promised i .table
+  trace-leaves (Traced.Refused q place) promised = λ i. promised i .table
 
 module _ (L : Layer) (n : ℕ) where
   pub counts-done : {inside sticks contours : ℕ} → firstNo (lengthQuestions L n) ≡ Yes → inside ≡ insideCount L → sticks ≡ stickCount L

@@ -1,6 +1,6 @@
 -- `call_read` meets its contract: the elements of a slice of bytes are below 256.
 use borrow.Author.Needs.{needs}
-use Rattle.guarantee.proofs.Promises.{read-leaves}
+use Rattle.reading.proofs.Theorems.{read-leaves}
 use Rattle.guarantee.proofs.calls.call_read.Statement.{statement}
 use Rattle.guarantee.proofs.calls.call_read.Tie as tie
 

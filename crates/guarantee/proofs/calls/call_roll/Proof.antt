@@ -1,6 +1,6 @@
 -- `call_roll` meets its contract.
 use borrow.Author.Needs.{needs}
-use Rattle.guarantee.proofs.Promises.{roll-leaves}
+use Rattle.roll.proofs.Held.{roll-leaves}
 use Rattle.guarantee.proofs.calls.call_roll.Statement.{statement}
 use Rattle.guarantee.proofs.calls.call_roll.Tie as tie
 

@@ -1,6 +1,6 @@
 -- `call_simplify` meets its contract.
 use borrow.Author.Needs.{needs}
-use Rattle.guarantee.proofs.Promises.{simplify-leaves}
+use Rattle.simplify.proofs.Outcomes.{simplify-leaves}
 use Rattle.guarantee.proofs.calls.call_simplify.Statement.{statement}
 use Rattle.guarantee.proofs.calls.call_simplify.Tie as tie
 

@@ -1,6 +1,6 @@
 -- `call_smooth` meets its contract.
 use borrow.Author.Needs.{needs}
-use Rattle.guarantee.proofs.Promises.{smooth-leaves}
+use Rattle.smooth.proofs.Held.{smooth-leaves}
 use Rattle.guarantee.proofs.calls.call_smooth.Statement.{statement}
 use Rattle.guarantee.proofs.calls.call_smooth.Tie as tie
 

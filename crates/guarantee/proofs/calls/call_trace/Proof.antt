@@ -1,6 +1,6 @@
 -- `call_trace` meets its contract.
 use borrow.Author.Needs.{needs}
-use Rattle.guarantee.proofs.Promises.{trace-leaves}
+use Rattle.trace.proofs.Outcomes.{trace-leaves}
 use Rattle.guarantee.proofs.calls.call_trace.Statement.{statement}
 use Rattle.guarantee.proofs.calls.call_trace.Tie as tie
 

@@ -1,6 +1,7 @@
 -- `open_by_sheet` meets its contract: the elements of a slice of bytes are below 256.
 use borrow.Author.Needs.{needs}
-use Rattle.guarantee.proofs.Promises.{read-leaves, read-accepts}
+use Rattle.reading.proofs.Theorems.{read-leaves}
+use Rattle.guarantee.proofs.Promises.{read-accepts}
 use Rattle.guarantee.proofs.openings.open_by_sheet.Statement.{statement}
 use Rattle.guarantee.proofs.openings.open_by_sheet.Tie as tie
 

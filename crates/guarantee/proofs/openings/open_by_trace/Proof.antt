@@ -1,6 +1,7 @@
 -- `open_by_trace` meets its contract.
 use borrow.Author.Needs.{needs}
-use Rattle.guarantee.proofs.Promises.{trace-leaves, trace-accepts}
+use Rattle.trace.proofs.Outcomes.{trace-leaves}
+use Rattle.guarantee.proofs.Promises.{trace-accepts}
 use Rattle.guarantee.proofs.openings.open_by_trace.Statement.{statement}
 use Rattle.guarantee.proofs.openings.open_by_trace.Tie as tie
 
