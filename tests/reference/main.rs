@@ -8,6 +8,7 @@ mod areas_checks;
 mod brute;
 mod builder;
 mod cases;
+mod ceiling;
 mod chord;
 mod contour;
 mod depth;
@@ -32,6 +33,7 @@ mod script;
 mod sets;
 mod sets_areas;
 mod sets_bitmap;
+mod sets_ceiling;
 mod sets_lists;
 mod sets_pending;
 mod sets_pins;
@@ -53,12 +55,13 @@ use std::process::ExitCode;
 
 use script::Command;
 
-const USAGE: &str = "usage: reference make NAME.. | random NAME SEED | answer | faithful | halves | show | test [SEED]
+const USAGE: &str = "usage: reference make NAME.. | random NAME SEED | answer | faithful | halves | ceiling | show | test [SEED]
   make    writes the script of the sets NAME.., one after the other
   random  writes the same set made from another seed
   answer  reads a script and writes the answers to its calls
   faithful  runs the lists of calls of a script; silent if every table after an accepted opening is faithful and pins stay
   halves  writes what the program of this name has to write
+  ceiling  writes what the program of this name has to write
   show    reads a script and prints it for a person
   test    checks the reference itself; silent if all is right";
 
@@ -89,6 +92,7 @@ fn run(words: &[&str]) -> Result<Vec<u8>, Failure> {
         ["answer"] => Ok(machine::answers(&read_script()?).into_bytes()),
         ["faithful"] => faithful(&read_script()?),
         ["halves"] => Ok(halves::lines().into_bytes()),
+        ["ceiling"] => Ok(ceiling::lines().into_bytes()),
         ["show"] => Ok(show::show(&read_script()?).into_bytes()),
         ["test"] => tested(None),
         ["test", word] => tested(Some(seed(word)?)),

@@ -22,7 +22,7 @@ pub fn steps() -> Vec<(usize, usize)> {
 pub const SLID: usize = 34;
 
 /// Slides the vertices up and down by turns, so that no run but a single edge is straight.
-fn slide_by_turns(b: &mut Builder, layer: &Layer) {
+pub fn slide_by_turns(b: &mut Builder, layer: &Layer) {
     for (i, stick) in contours(layer).concat().into_iter().enumerate() {
         b.poke(stick, if i % 2 == 0 { 100 } else { 150 });
     }

@@ -9,6 +9,7 @@ use crate::picture;
 use crate::refusals::{ask_1_to_7, not_held, plain, remove_at_random, some_removed, Call};
 use crate::roll::Action;
 use crate::script::Command;
+use crate::sets_ceiling::ceiling;
 use crate::sets_pending::pending;
 use crate::sets_settling::settling;
 
@@ -187,7 +188,7 @@ fn traced_smoothed_and_slid(b: &mut Builder, t: u8) {
     }
 }
 
-/// Simplify: B, M, P, T, S and Y only.
+/// Simplify: B, M, P, T, S, Y and R only.
 pub fn simplify(b: &mut Builder) {
     let call = plain(Command::Simplify { t: 86 });
     ask_1_to_7(b, &call);
@@ -212,6 +213,7 @@ pub fn simplify(b: &mut Builder) {
     b.add(Command::Smooth { limit: 100 });
     b.add(Command::Simplify { t: 64 });
     pending(b);
+    ceiling(b);
 }
 
 /// Rolls that are not well formed, after some edits that would be done.

@@ -5,6 +5,7 @@ use crate::areas_checks;
 use crate::brute::{self, Stroke};
 use crate::builder::Builder;
 use crate::cases::{self, call, traced};
+use crate::ceiling;
 use crate::chord::{crosses, meets, vertex, Fraction, Point};
 use crate::contour::contours;
 use crate::depth::depths;
@@ -595,6 +596,7 @@ pub fn wrong(seed: Option<u64>) -> Vec<String> {
     wrong.extend(pins::wrong(rng.next()));
     wrong.extend(pins_vectors::wrong());
     wrong.extend(areas_checks::wrong(rng.next()));
+    wrong.extend(ceiling::wrong(rng.next()));
     stops(&mut wrong);
     order_shows(&mut wrong);
     wrong
