@@ -77,7 +77,8 @@ uint32_t pz_smooth(uint16_t w, uint16_t h, const uint8_t *bitmap, size_t bitmap_
                    uint16_t limit, uint64_t *figures, size_t figures_len);
 
 /* Removes the inner vertices of runs whose chord crosses every stick between and slides none by more than t, in 1/256 of the pitch, and that have
- * no pinned vertex inside. figures: place, removed, runs tried */
+ * no pinned vertex inside. figures: place, removed, runs tried. With the figures of pz_counts the runs tried are 2 * sticks - 2 * contours at most,
+ * and two fewer for each vertex removed */
 uint32_t pz_simplify(uint16_t w, uint16_t h, const uint8_t *bitmap, size_t bitmap_len, uint16_t *table, size_t table_len,
                      uint8_t t, uint64_t *figures, size_t figures_len);
 

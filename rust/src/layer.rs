@@ -26,6 +26,26 @@ pub struct Counts {
     pub contours: u64,
 }
 
+impl Counts {
+    /// The most runs that [`Layer::simplify`] tries on the layer, whatever the tolerance and the offsets: twice the vertices less twice the contours.
+    /// It tries two fewer for each vertex that it removes.
+    ///
+    /// ```
+    /// # use puzhenim::Layer;
+    /// let layer = Layer { width: 5, height: 3, bitmap: &[0, 0b01110, 0] };
+    /// let mut table = layer.new_table();
+    /// layer.trace(&mut table)?;
+    /// let most = layer.counts(&table)?.most_tries();
+    /// let simplified = layer.simplify(&mut table, 86)?;
+    /// assert_eq!(most, 14);
+    /// assert_eq!(simplified.tried, most - 2 * simplified.removed);
+    /// # Ok::<(), puzhenim::Refusal>(())
+    /// ```
+    pub fn most_tries(&self) -> u64 {
+        self.sticks.saturating_sub(self.contours).saturating_mul(2)
+    }
+}
+
 /// What [`Layer::smooth`] answers.
 #[derive(Clone, Copy, Debug, PartialEq, Eq)]
 pub struct Smoothed {
@@ -42,7 +62,7 @@ pub struct Smoothed {
 pub struct Simplified {
     /// Vertices removed.
     pub removed: u64,
-    /// Runs tried, single edges included.
+    /// Runs tried, single edges included: [`Counts::most_tries`], less two for each vertex removed.
     pub tried: u64,
 }
 

@@ -113,6 +113,36 @@ fn simplifying_a_bar_compares_the_slide_exactly() {
     assert_eq!(BAR.simplify(&mut table, 85), Ok(Simplified { removed: 0, tried: 14 }));
 }
 
+/// Note 8: "for a layer at most twice the vertices minus twice the contours"; each vertex removed spares two runs.
+#[test]
+fn a_removed_vertex_spares_two_tries() {
+    for (layer, most) in [(SINGLE, 6), (BAR, 14), (NESTED, 72), (EMPTY, 0)] {
+        for tolerance in [0, 64, 85, 86, 255] {
+            let mut table = traced(layer);
+            assert_eq!(layer.counts(&table).unwrap().most_tries(), most);
+            let simplified = layer.simplify(&mut table, tolerance).unwrap();
+            assert_eq!(simplified.tried + 2 * simplified.removed, most);
+        }
+    }
+    assert_eq!(Counts { inside: 0, sticks: 1, contours: 2 }.most_tries(), 0);
+    assert_eq!(Counts { inside: 0, sticks: u64::MAX, contours: 0 }.most_tries(), u64::MAX);
+}
+
+/// Note 8: "for each even n from 4 to 12, one held layer with a single contour of n vertices, all kept and slid where needed, that reaches the
+/// ceiling at T 0". Rows of one to five samples, slid at every second one.
+#[test]
+fn slid_rows_reach_the_ceiling() {
+    for (samples, tried) in (1..=5).zip([6, 10, 14, 18, 22]) {
+        let bitmap = [0, (2 << samples) - 2, 0];
+        let layer = Layer { width: samples + 2, height: 3, bitmap: &bitmap };
+        let mut table = traced(layer);
+        let slides = |column| [0, 1].map(|row| slide(Edge { vertical: true, column, row }, 100)).concat();
+        let roll: Vec<Vec<u8>> = (2..=samples).step_by(2).map(slides).collect();
+        assert_eq!(layer.roll(&mut table, &ended(&roll), 0), Ok(u64::from(samples / 2 * 2)));
+        assert_eq!(layer.simplify(&mut table, 0), Ok(Simplified { removed: 0, tried }));
+    }
+}
+
 #[test]
 fn a_slid_vertex_is_removed_within_the_tolerance() {
     let middle = Edge { vertical: true, column: 2, row: 0 };

@@ -1,6 +1,6 @@
--- No call of Simplify goes beyond the ceiling. With two runs added for each vertex removed, a run of k edges tries 2·k - 1, the two runs of a contour so
--- 2·n - 2 (`simplify` Trying, Layers). Each contour finds its entries as they were lent, so the runs that the call answers are those of its contours,
--- each simplified by itself.
+-- No call of Simplify goes beyond the ceiling. A run of k edges and its parts are 2·k - 1 tries, less two for each vertex removed, so the two runs of a
+-- contour 2·n - 2 (`simplify` Trying, Layers). Each contour finds its entries as they were lent, so the call's figures are those of its contours, each
+-- simplified by itself.
 use mathlib.Core.Path.{_≡_, refl, sym, ap, _∙_}
 use mathlib.Core.Bool.{true}
 use mathlib.Core.List.{List, [], _∷_, foldl}
@@ -25,6 +25,7 @@ use Rattle.table.proofs.Local.{Local}
 use Rattle.table.proofs.InTurn.{PartDone, part-start, part-first, part-here, part-turn}
 use Rattle.held.specs.Held.{heldAnswer}
 use Rattle.held.specs.Questions.{keptQuestions}
+use Rattle.trace.specs.Counts.{Figures}
 use Rattle.trace.proofs.Outcomes.{counts-done}
 use Rattle.simplify.specs.Runs.{Progress, simplifyContour, simplify}
 use Rattle.simplify.specs.Parts.{begun}
@@ -33,37 +34,40 @@ use Rattle.simplify.proofs.Trying.{onTop}
 use Rattle.simplify.proofs.Layers.{contour-from, contour-counts, simplify-is, simplify-counts}
 use Rattle.simplify.proofs.Locality.{simplifyContour-agree, simplifyContour-local}
 use Rattle.simplify.proofs.Outcomes.{outcome-is, yes-to-all}
-use Rattle.ceiling.specs.Ceiling.{contourCeiling, alone, Ceiling}
+use Rattle.ceiling.specs.Ceiling.{alone, Ceiling}
 
 module _ {L : Layer} (sound : Sound L) (tolerance : ℕ) where
   first-stick : (f : Edge) → first (walkOf L) f ≡ true → isStick L f ≡ true
   first-stick = first-one (walkOf L) (laws L sound)
 
   contour-exact : (t : List ℕ) (f : Edge) → first (walkOf L) f ≡ true
-      → alone L tolerance t f .tried + 2 * alone L tolerance t f .removed ≡ contourCeiling (length (contourOf L f))
+      → alone L tolerance t f .tried + 2 * alone L tolerance t f .removed + 2 ≡ 2 * length (contourOf L f)
   contour-exact t f is = omega (arith, contour-counts L tolerance (record { sound = sound; stick = first-stick f is }) (begun t))
 
   -- The contours one after the other
 
   abbrev simplified : Edge → List ℕ → List ℕ
-  simplified f u = simplifyContour L tolerance (begun u) f .table
+  simplified f u = alone L tolerance u f .table
 
   locally : (f : Edge) → first (walkOf L) f ≡ true → Local L f (simplified f)
   locally f is = simplifyContour-local L sound f (first-stick f is) tolerance
 
-  in-turn : (t : List ℕ) (l : List Edge) (s : Progress) → PartDone sound simplified locally t l (s .table)
-      → foldl (simplifyContour L tolerance) s l .tried ≡ s .tried + total (λ g. alone L tolerance t g .tried) l
-  in-turn t [] s part = omega arith
-  in-turn t (f ∷ l) s part =
-      let r : Progress = simplifyContour L tolerance (begun (s .table)) f in
-      let stick = first-stick f (part-first sound simplified locally t part) in
-      let same = simplifyContour-agree L sound f stick tolerance (begun (s .table)) (begun t) (part-here sound simplified locally t part) .tried-alike in
-      let others = in-turn t l (onTop s r) (part-turn sound simplified locally t part) in
-      ap (λ (x : Progress). foldl (simplifyContour L tolerance) x l .tried) (contour-from L tolerance s f) ∙ omega (arith, same, others)
+  -- the counts of the contours of some first sticks, each simplified by itself, on top of those of s
+  record Added (t : List ℕ) (l : List Edge) (s r : Progress) : Type 0 where
+    tried : r .tried ≡ s .tried + total (λ f. alone L tolerance t f .tried) l
+    removed : r .removed ≡ s .removed + total (λ f. alone L tolerance t f .removed) l
 
-  each-alone : (t : List ℕ) → length t ≡ edgeCount (L .size) → simplify L tolerance t .tried ≡ total (λ f. alone L tolerance t f .tried) (firstSticks L)
-  each-alone t whole =
-      rw (simplify-is L tolerance t) (omega (arith, in-turn t (firstSticks L) (begun t) (part-start sound simplified locally t whole)))
+  in-turn : (t : List ℕ) (l : List Edge) (s : Progress) → PartDone sound simplified locally t l (s .table)
+      → Added t l s (foldl (simplifyContour L tolerance) s l)
+  in-turn t [] s part = record { tried = omega arith; removed = omega arith }
+  in-turn t (f ∷ l) s part =
+      let stick = first-stick f (part-first sound simplified locally t part) in
+      let same = simplifyContour-agree L sound f stick tolerance (begun (s .table)) (begun t) (part-here sound simplified locally t part) in
+      let later = in-turn t l (onTop s (alone L tolerance (s .table) f)) (part-turn sound simplified locally t part) in
+      rw (contour-from L tolerance s f) (record { tried = omega (arith, same, later); removed = omega (arith, same, later) })
+
+  each-alone : (t : List ℕ) → length t ≡ edgeCount (L .size) → Added t (firstSticks L) (begun t) (simplify L tolerance t)
+  each-alone t whole = rw (simplify-is L tolerance t) (in-turn t (firstSticks L) (begun t) (part-start sound simplified locally t whole))
 
 -- The call
 
@@ -83,11 +87,15 @@ module _ (L : Layer) (tolerance : ℕ) (t : List ℕ) where
       let tried : simplifyOf L tolerance t .tried ≡ simplify L tolerance t .tried = ap (λ (o : Outcome). o .tried) is in
       let removed : simplifyOf L tolerance t .removed ≡ simplify L tolerance t .removed = ap (λ (o : Outcome). o .removed) is in
       let layer = simplify-counts L tolerance sound t in
+      let added = each-alone sound tolerance t (accepted .exact) in
+      let counts = sym (counts-done L (length t) lengths refl refl refl) in
       record {
-        by-contour = tried ∙ each-alone sound tolerance t (accepted .exact);
         of-contour = λ f first. omega (arith, contour-exact sound tolerance t f first);
         of-layer = omega (arith, tried, layer);
+        tried-by-contour = omega (arith, tried, added .tried);
+        removed-by-contour = omega (arith, removed, added .removed);
         contour-exact = contour-exact sound tolerance t;
         layer-exact = omega (arith, tried, removed, layer);
-        counted = sym (counts-done L (length t) lengths refl refl refl);
+        sticks-counted = ap (λ (c : Figures). c .sticks) counts;
+        contours-counted = ap (λ (c : Figures). c .contours) counts;
       }

@@ -14,23 +14,25 @@ use Rattle.table.specs.Vertices.{keptAt, removedAt, pinnedAt, offsetAt}
 use Rattle.drawn.specs.Neighbours.{removedFrom, keptFrom}
 use Rattle.drawn.specs.Drawn.{edgeCrosses}
 use Rattle.held.specs.Held.{heldContour, heldAnswer}
+use Rattle.trace.specs.Counts.{countsOf}
 use Rattle.trace.specs.Trace.{traceOf}
 use Rattle.run.specs.Runs.{passes}
 use Rattle.simplify.specs.Call.{simplifyOf}
 use Rattle.edit.specs.Edits.{edgeWithin}
 use Rattle.roll.specs.Roll.{rollOf}
-use Rattle.ceiling.specs.Reached.{Reached}
+use Rattle.ceiling.specs.Reached.{CeilingReached}
 
-pub reached : Reached
-unfolding traceOf tabulateFrom simplifyOf rollOf sidesAnswer lengthAnswer spareAnswer borderAnswer tableLengthAnswer entriesAnswer allKeptAnswer heldAnswer
+pub ceiling-reached : CeilingReached
+unfolding countsOf traceOf tabulateFrom simplifyOf rollOf sidesAnswer lengthAnswer spareAnswer borderAnswer tableLengthAnswer entriesAnswer allKeptAnswer heldAnswer
     heldContour edgeCrosses edgeWithin firstsAmong ahead number edgeCount edgeAt isStick sample bit next prev xor leastFrom count keptAt
     removedAt pinnedAt offsetAt removedFrom keptFrom entryOf off parted crosses slidesWithin passes
-reached =
+ceiling-reached =
     record {
-      four = record { slid = refl; held = refl; single = refl; reached = refl; same = refl };
-      six = record { slid = refl; held = refl; single = refl; reached = refl; same = refl };
-      eight = record { slid = refl; held = refl; single = refl; reached = refl; same = refl };
-      ten = record { slid = refl; held = refl; single = refl; reached = refl; same = refl };
-      twelve = record { slid = refl; held = refl; single = refl; reached = refl; same = refl };
+      four = record { table-after = refl; held = refl; one-contour = refl; counted = refl; answer = refl; layer-ceiling = refl };
+      six = record { table-after = refl; held = refl; one-contour = refl; counted = refl; answer = refl; layer-ceiling = refl };
+      eight = record { table-after = refl; held = refl; one-contour = refl; counted = refl; answer = refl; layer-ceiling = refl };
+      ten = record { table-after = refl; held = refl; one-contour = refl; counted = refl; answer = refl; layer-ceiling = refl };
+      twelve = record { table-after = refl; held = refl; one-contour = refl; counted = refl; answer = refl; layer-ceiling = refl };
       two-contours = refl;
+      two-answer = refl;
     }

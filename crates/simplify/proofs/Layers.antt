@@ -1,5 +1,5 @@
--- Contours simplified one after the other: that counting may start from 0, and how many runs are tried and vertices removed. Each vertex that is removed
--- spares two tries: with as many added, a contour of n sticks has 2·n - 2 of them, and a layer twice its sticks less twice its contours.
+-- Contours simplified one after the other: that counting may start from 0, and how many runs are tried and vertices removed. A layer has twice its sticks
+-- less twice its contours of tries, and two fewer for each vertex that is removed.
 use mathlib.Core.Path.{_≡_, refl, sym, _∙_, ap}
 use mathlib.Core.Bool.{true, false}
 use mathlib.Core.List.{List, [], _∷_, foldl, map, flatten}
@@ -13,7 +13,7 @@ use Rattle.grid.specs.Questions.{Sound}
 use Rattle.grid.specs.declared.edge.Edge.{Edge}
 use Rattle.grid.proofs.Numbers.{edges-small}
 use Rattle.mask.specs.Counts.{stickCount}
-use Rattle.contour.specs.Walk.{rest, contour, firstsFrom}
+use Rattle.contour.specs.Walk.{contour, firstsFrom}
 use Rattle.contour.specs.Contours.{walkOf, contourOf, firstSticks, contourCount}
 use Rattle.contour.specs.Sets.{FirstSet}
 use Rattle.contour.specs.Cursors.{left, Placed, Opened, Moved}
@@ -24,7 +24,7 @@ use Rattle.drawn.proofs.FourKept.{four-sticks}
 use Rattle.run.specs.Runs.{stickAfter, StickOf}
 use Rattle.simplify.specs.Runs.{Progress, half, tryRun, simplifyContour, simplify}
 use Rattle.simplify.specs.Parts.{begun}
-use Rattle.simplify.proofs.Trying.{onTop, try-two, try-counts, try-length, contour-runs}
+use Rattle.simplify.proofs.Trying.{onTop, split-of, try-two, try-counts, try-length, contour-runs}
 
 module _ (L : Layer) (tolerance : ℕ) where
   pub contour-from : (s : Progress) (f : Edge)
@@ -47,32 +47,26 @@ module _ (L : Layer) (tolerance : ℕ) where
       rw (contour-runs L tolerance s f)
       (try-length L tolerance n (tryRun L tolerance n s f (half n)) (stickAfter L (half n) f) (n - half n) ∙ try-length L tolerance n s f (half n))
 
-  -- a contour
-  pub contour-counts : {f : Edge} → StickOf L f → (s : Progress) → let n : ℕ = length (contourOf L f) in
-      let r : Progress = simplifyContour L tolerance s f in r .tried + 2 * r .removed ≡ s .tried + 2 * s .removed + (2 * n - 2)
+  -- a contour of n sticks: 2·n - 2 tries, less two for each vertex that is removed
+  pub contour-counts : {f : Edge} → StickOf L f → (s : Progress) → let r : Progress = simplifyContour L tolerance s f in
+      r .tried + 2 * r .removed + 2 ≡ s .tried + 2 * s .removed + 2 * length (contourOf L f)
   contour-counts {f} of s =
       let n : ℕ = length (contourOf L f) in
-      let four = four-sticks L (of .sound) f (of .stick) in
-      let one = try-counts L tolerance n s f (half n) (omega arith) (omega arith) in
-      let two = try-counts L tolerance n (tryRun L tolerance n s f (half n)) (stickAfter L (half n) f) (n - half n) (omega arith) (omega arith) in
-      rw (contour-runs L tolerance s f) (omega (arith, one, two))
+      let p = split-of n (omega (arith, four-sticks L (of .sound) f (of .stick))) in
+      let one = try-counts L tolerance n s f (half n) (p .first-some) (omega (arith, p)) in
+      let two = try-counts L tolerance n (tryRun L tolerance n s f (half n)) (stickAfter L (half n) f) (n - half n) (p .second-some) (omega (arith, p)) in
+      rw (contour-runs L tolerance s f) (omega (arith, one, two, p))
 
-  -- the contours of some first sticks: they have no fewer sticks than there are contours,
-  contours-long : (l : List Edge) → length l ≤ length (flatten (map (contour (walkOf L)) l))
-  unfolding flatten rest
-  contours-long [] = omega arith
-  contours-long (f ∷ l) = omega (arith, length-append (contourOf L f) (flatten (map (contour (walkOf L)) l)), contours-long l)
-
-  contours-counts : Sound L → (l : List Edge) → AllSticks L l → (s : Progress) → let n : ℕ = length (flatten (map (contour (walkOf L)) l)) in
-      let r : Progress = foldl (simplifyContour L tolerance) s l in r .tried + 2 * r .removed ≡ s .tried + 2 * s .removed + (2 * n - 2 * length l)
+  -- the contours of some first sticks
+  contours-counts : Sound L → (l : List Edge) → AllSticks L l → (s : Progress) → let r : Progress = foldl (simplifyContour L tolerance) s l in
+      r .tried + 2 * r .removed + 2 * length l ≡ s .tried + 2 * s .removed + 2 * length (flatten (map (contour (walkOf L)) l))
   unfolding flatten
   contours-counts sound [] sticks s = omega arith
   contours-counts sound (f ∷ l) sticks s =
-      let here : StickOf L f = record { sound = sound; stick = head-stick sound f l sticks } in
-      let four = four-sticks L sound f (here .stick) in
+      let here = contour-counts (record { sound = sound; stick = head-stick sound f l sticks }) s in
       let sum = length-append (contourOf L f) (flatten (map (contour (walkOf L)) l)) in
       let later = contours-counts sound l (tail-sticks sound f l sticks) (simplifyContour L tolerance s f) in
-      omega (arith, contour-counts here s, later, sum, contours-long l)
+      omega (arith, here, later, sum)
 
   -- and both counts only grow
   contours-more : (l : List Edge) (s : Progress) → let r : Progress = foldl (simplifyContour L tolerance) s l in
@@ -89,7 +83,7 @@ module _ (L : Layer) (tolerance : ℕ) where
 
   -- over the layer
   pub simplify-counts : Sound L → (t : List ℕ) → let r : Progress = simplify L tolerance t in
-      r .tried + 2 * r .removed ≡ 2 * stickCount L - 2 * contourCount L
+      r .tried + 2 * r .removed + 2 * contourCount L ≡ 2 * stickCount L
   simplify-counts sound t =
       let counts = contours-counts sound (firstSticks L) (firsts-sticks sound) (begun t) in
       rw (simplify-is t) (omega (arith, counts, total-length L sound, length-map (firstSticks L) (contourOf L)))

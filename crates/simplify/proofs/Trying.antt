@@ -154,9 +154,9 @@ module _ (L : Layer) (tolerance : ℕ) where
       (omega (arith, p)) (omega (arith, p)) (omega (arith, p)) (omega (arith, p))
       ∙ sym (try-splits d′ s e n f))
 
-  -- each vertex that is removed spares two tries
+  -- a run of n edges and its parts are 2·n - 1 tries, less two for each vertex that is removed
   pub try-counts : (depth : ℕ) (s : Progress) (e : Edge) (n : ℕ) → 1 ≤ n → n ≤ depth → let r : Progress = tryRun L tolerance depth s e n in
-      r .tried + 2 * r .removed ≡ s .tried + 2 * s .removed + (2 * n - 1)
+      r .tried + 2 * r .removed + 1 ≡ s .tried + 2 * s .removed + 2 * n
   try-counts zero s e n some deep = absurd (omega arith)
   try-counts (suc depth) s e n some deep = both-sides (passes L (s .table) tolerance e n)
       (λ y. rw (try-passes depth s e n y, inner-is L (oneTried s) e n) (omega arith))
