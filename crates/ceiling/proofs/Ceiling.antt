@@ -61,9 +61,9 @@ module _ {L : Layer} (sound : Sound L) (tolerance : ℕ) where
       → Added t l s (foldl (simplifyContour L tolerance) s l)
   in-turn t [] s part = record { tried = omega arith; removed = omega arith }
   in-turn t (f ∷ l) s part =
-      let stick = first-stick f (part-first sound simplified locally t part) in
-      let same = simplifyContour-agree L sound f stick tolerance (begun (s .table)) (begun t) (part-here sound simplified locally t part) in
-      let later = in-turn t l (onTop s (alone L tolerance (s .table) f)) (part-turn sound simplified locally t part) in
+      let stick = first-stick f (part-first part) in
+      let same = simplifyContour-agree L sound f stick tolerance (begun (s .table)) (begun t) (part-here part) in
+      let later = in-turn t l (onTop s (alone L tolerance (s .table) f)) (part-turn part) in
       rw (contour-from L tolerance s f) (record { tried = omega (arith, same, later); removed = omega (arith, same, later) })
 
   each-alone : (t : List ℕ) → length t ≡ edgeCount (L .size) → Added t (firstSticks L) (begun t) (simplify L tolerance t)

@@ -111,9 +111,8 @@ module _ (L : Layer) (sound : Sound L) (limit : ℕ) where
         → Part [] (foldl (smoothNext L limit) s l) (foldl (λ q f. withContour q (smoothContour L limit t f)) r l)
     part-all [] s r p = p
     part-all (f ∷ l) s r p =
-        let now = smoothContour-agree L sound f (first-stick f (part-first sound smoothTable locally t (p .tables))) limit
-        (part-here sound smoothTable locally t (p .tables)) in
-        part-all l _ _ (record { tables = part-turn sound smoothTable locally t (p .tables); answer = with-same (p .answer) (now .answer) })
+        let now = smoothContour-agree L sound f (first-stick f (part-first (p .tables))) limit (part-here (p .tables)) in
+        part-all l _ _ (record { tables = part-turn (p .tables); answer = with-same (p .answer) (now .answer) })
 
     smoothed-all : Part [] (smooth L limit t) (eachAlone t)
     smoothed-all =

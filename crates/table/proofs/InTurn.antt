@@ -37,10 +37,12 @@ module _ {L : Layer} (sound : Sound L) (step : Edge → List ℕ → List ℕ) (
         done = λ f is none. absurd (omega (arith, once f, ap asNumber is));
       }
 
-  is-first : {l : List Edge} {u : List ℕ} → PartDone l u → (f : Edge) → 0 < occurrences (walkOf L) f l → first (walkOf L) f ≡ true
+module _ {L : Layer} {sound : Sound L} {step : Edge → List ℕ → List ℕ} {local : (f : Edge) → first (walkOf L) f ≡ true → Local L f (step f)}
+    {t : List ℕ} where
+  is-first : {l : List Edge} {u : List ℕ} → PartDone sound step local t l u → (f : Edge) → 0 < occurrences (walkOf L) f l → first (walkOf L) f ≡ true
   is-first part f some = both-sides (first (walkOf L) f) (λ y. y) (λ n. absurd (omega (arith, part .once f, ap asNumber n)))
 
-  module _ {f : Edge} {l : List Edge} {u : List ℕ} (part : PartDone (f ∷ l) u) where
+  module _ {f : Edge} {l : List Edge} {u : List ℕ} (part : PartDone sound step local t (f ∷ l) u) where
     stands : 0 < occurrences (walkOf L) f (f ∷ l)
     unfolding occurrences
     stands = omega (arith, ap asNumber (laws L sound .same-self f))
@@ -52,13 +54,13 @@ module _ {L : Layer} (sound : Sound L) (step : Edge → List ℕ → List ℕ) (
     pub part-here : Agree L f u t
     part-here = part .left f stands
 
-    -- and the others while it is worked on
+    -- the others while it is worked on
     other : (g : Edge) → first (walkOf L) g ≡ true → f ≢ g → {v : List ℕ} → Agree L g u v → Agree L g (step f u) v
     other g first-g differ a =
         agree-then (agree-other L sound f g part-first first-g differ (step f) (local f part-first) u (a .whole₁)) a
 
     -- after it
-    pub part-turn : PartDone l (step f u)
+    pub part-turn : PartDone sound step local t l (step f u)
     unfolding occurrences
     part-turn =
         record {
