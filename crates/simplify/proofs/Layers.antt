@@ -1,5 +1,5 @@
--- Contours simplified one after the other: that counting may start from 0, and how many runs are tried and vertices removed. A layer has twice its sticks
--- less twice its contours of tries, and two fewer for each vertex that is removed.
+-- Contours simplified one after the other: that counting may start from 0, and how many runs are tried and vertices removed. Over a layer the
+-- runs tried are twice the sticks less twice the contours, and two fewer for each vertex that is removed.
 use mathlib.Core.Path.{_≡_, refl, sym, _∙_, ap}
 use mathlib.Core.Bool.{true, false}
 use mathlib.Core.List.{List, [], _∷_, foldl, map, flatten}
