@@ -15,7 +15,7 @@ use shoelace::put_sums;
 use table::count_kept;
 
 // The answer: done, with the number of contours and of drawn edges and what these add up to, or refused with the question and its place.
-#[derive(Drop)]
+#[derive(Clone, Copy)]
 pub enum Measured {
     Done {
         contours: usize,

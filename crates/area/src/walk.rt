@@ -13,7 +13,7 @@ use step::next_stick;
 use table::{entry_at, is_kept};
 
 // The first and the last kept vertex that a walk has passed. Before there is one, both are the origin, from where an edge adds nothing.
-#[derive(Drop)]
+#[derive(Clone, Copy)]
 pub struct Trail {
     pub begun: bool,
     pub begin: Position,

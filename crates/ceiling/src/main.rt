@@ -15,7 +15,7 @@ const LONGEST_ROLL: [u8; 29] =
     *b"S\x01\x04\0\0\0\x64S\x01\x04\0\x01\0\x64S\x01\x02\0\0\0\x64S\x01\x02\0\x01\0\x64E";
 
 // A line of the program.
-#[derive(Drop)]
+#[derive(Clone, Copy)]
 pub struct Line {
     pub vertices: usize,
     pub tried: usize,

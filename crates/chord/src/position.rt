@@ -7,7 +7,7 @@ ghost use Rattle.chord.specs.Runs.{Near, NearEdge};
 use grid::Edge;
 
 // In 1/256 of the pitch from sample (0,0).
-#[derive(Drop)]
+#[derive(Clone, Copy)]
 pub struct Position {
     pub x: usize,
     pub y: usize,

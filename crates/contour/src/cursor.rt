@@ -10,7 +10,7 @@ use bitset::{EdgeSet, next_first};
 use grid::{Edge, Size, edge_in, kind_start};
 
 // The first stick at which the loop stands and its number, unless there are no more.
-#[derive(Drop)]
+#[derive(Clone, Copy)]
 pub struct Cursor {
     pub stick: Edge,
     pub number: usize,

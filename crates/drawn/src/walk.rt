@@ -10,7 +10,7 @@ use step::{next_stick, previous_stick};
 use table::{entry_at, is_removed};
 
 // The other end of the drawn edge that starts or ends at a stick, and how many removed sticks lie between.
-#[derive(Drop)]
+#[derive(Clone, Copy)]
 pub struct EdgeEnd {
     pub stick: Edge,
     pub gap: usize,

@@ -10,7 +10,7 @@ use grid::{Edge, Size, edge_columns, edge_rows};
 use table::{entry_at, is_kept, is_pinned};
 
 // A stick as a command names it; it may lie outside the grid.
-#[derive(Drop)]
+#[derive(Clone, Copy)]
 pub struct Named {
     pub kind: u8,
     pub column: usize,

@@ -10,7 +10,7 @@ use step::next_stick;
 use table::{entry_at, offset_in};
 
 // A drawn edge: its two ends, the stick where it starts, and how many removed sticks it passes after that.
-#[derive(Drop)]
+#[derive(Clone, Copy)]
 pub struct Chord {
     pub from: Position,
     pub to: Position,

@@ -15,7 +15,7 @@ use sheet::{CONTOUR_BYTES, SIZE_BYTES, VERTEX_BYTES};
 use step::next_stick;
 
 // How far the asking came: whether all commands that were asked for stand, and the place after the last, or else of the first that does not.
-#[derive(Drop)]
+#[derive(Clone, Copy)]
 pub struct Progress {
     pub all: bool,
     pub at: usize,

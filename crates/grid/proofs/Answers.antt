@@ -15,7 +15,6 @@ use Rattle.grid.specs.Layer.{Layer}
 use Rattle.grid.specs.Questions.{number_of, first_no, ask, ask_each, in_range, sides_answer, length_answer, spare_set, spare_answer, border_in, border_at, border_answer, layer_questions, Sized, Whole, Sound}
 use Rattle.grid.specs.declared.layer.Size.{Size}
 use Rattle.grid.specs.declared.question.Refusal.{Refusal}
-use Rattle.grid.specs.declared.question.Refusal.TheVariants as Refusal
 use Rattle.grid.specs.declared.question.Answer.{Answer}
 use Rattle.grid.specs.declared.question.Answer.TheVariants.{Yes, No}
 

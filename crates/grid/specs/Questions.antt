@@ -4,7 +4,6 @@ use Rattle.arith.specs.Ranges.{least}
 use Rattle.grid.specs.Layer.{Layer, stride, sample}
 use Rattle.grid.specs.declared.layer.Size.{Size}
 use Rattle.grid.specs.declared.question.Refusal.{Refusal}
-use Rattle.grid.specs.declared.question.Refusal.TheVariants as Refusal
 use Rattle.grid.specs.declared.question.Answer.{Answer}
 use Rattle.grid.specs.declared.question.Answer.TheVariants.{Yes, No}
 

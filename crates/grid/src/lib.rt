@@ -1,4 +1,6 @@
 // A layer's samples and grid edges, and the sticks among them; questions 1 to 4.
+#![tactic(auto)]
+
 mod edge;
 mod layer;
 mod question;

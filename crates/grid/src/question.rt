@@ -7,7 +7,7 @@ ghost use Rattle.grid.specs.Questions.{number_of, first_no, in_range, sides_answ
 use super::layer::{Size, is_inside, row_byte, stride_of, widen};
 
 // Why a call is refused: a case for each question, in the order of their numbers.
-#[derive(Drop)]
+#[derive(Clone, Copy)]
 pub enum Refusal {
     BadSides,
     BitmapLength,
@@ -28,7 +28,7 @@ pub enum Refusal {
 }
 
 // Yes, or the question that was answered no and the place that goes with it.
-#[derive(Drop)]
+#[derive(Clone, Copy)]
 pub enum Answer {
     Yes,
     No(Refusal, usize),

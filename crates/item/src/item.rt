@@ -9,13 +9,13 @@ ghost use Rattle.item.specs.Writing.{buffers_of, write_item, Room};
 use grid::Edge;
 
 // Where a vertex is, in samples.
-#[derive(Drop)]
+#[derive(Clone, Copy)]
 pub struct Point {
     pub x: f64,
     pub y: f64,
 }
 
-#[derive(Drop)]
+#[derive(Clone, Copy)]
 pub enum Item {
     Move(f64, f64),
     Line(f64, f64),
@@ -23,7 +23,7 @@ pub enum Item {
 }
 
 // How many items and floats have been written.
-#[derive(Drop)]
+#[derive(Clone, Copy)]
 pub struct Written {
     pub items: usize,
     pub floats: usize,

@@ -14,7 +14,7 @@ use contour::{Cursor, first_contour, next_contour};
 use grid::Size;
 
 // Where the loop stands, and the depth of the contour there.
-#[derive(Drop)]
+#[derive(Clone, Copy)]
 pub struct Nested {
     pub at: Cursor,
     pub depth: usize,

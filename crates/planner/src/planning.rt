@@ -13,7 +13,7 @@ use grid::{Answer, Refusal, Size};
 use table::count_kept;
 
 // The call's answer: how many items and floats were written, or refused with the question and its place.
-#[derive(Drop)]
+#[derive(Clone, Copy)]
 pub enum Planned {
     Done { items: usize, floats: usize },
     Refused(Refusal, usize),

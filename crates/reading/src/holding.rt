@@ -22,7 +22,7 @@ use sheet::{CONTOUR_BYTES, SIZE_BYTES, VERTEX_BYTES};
 use step::next_stick;
 
 // A stick, and the place of its vertex in the sheet.
-#[derive(Drop)]
+#[derive(Clone, Copy)]
 pub struct Vertex {
     pub stick: Edge,
     pub place: usize,
@@ -49,7 +49,7 @@ fn vertex_after(size: Size, bitmap: &[u8], first: Vertex, v: Vertex) -> Vertex
 }
 
 // Where the drawn edge from a kept vertex ends, and how many removed sticks lie between.
-#[derive(Drop)]
+#[derive(Clone, Copy)]
 pub struct EdgeEnd {
     pub vertex: Vertex,
     pub gap: usize,
@@ -99,7 +99,7 @@ fn held_edge(size: Size, bitmap: &[u8], sheet: &[u8], first: Vertex, v: Vertex) 
 }
 
 // Whether a contour is held, and if so the place after its vertices.
-#[derive(Drop)]
+#[derive(Clone, Copy)]
 pub struct Checked {
     pub held: bool,
     pub end: usize,

@@ -15,7 +15,7 @@ use formed::ask_sheet;
 use grid::{Answer, Refusal, Size};
 
 // The answer: done, or refused with the question and its place.
-#[derive(Drop)]
+#[derive(Clone, Copy)]
 pub enum SheetRead {
     Done,
     Refused(Refusal, usize),

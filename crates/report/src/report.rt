@@ -5,7 +5,7 @@ ghost use Rattle.report.specs.Results.{ReportStored, twos_complement};
 
 use grid::Refusal;
 
-#[derive(Drop)]
+#[derive(Clone, Copy)]
 pub struct Report {
     pub number: u32,
     pub place: usize,

@@ -13,7 +13,7 @@ use edit::{pin, remove, slide};
 use grid::{Answer, Refusal, Size};
 
 // Roll's answer: the commands done, or refused with the question, its place and the commands done before.
-#[derive(Drop)]
+#[derive(Clone, Copy)]
 pub enum Rolled {
     Done(usize),
     Refused {
@@ -24,7 +24,7 @@ pub enum Rolled {
 }
 
 // The result of a command: it is done and the next one starts at a byte, the roll ends, or a question is answered no.
-#[derive(Drop)]
+#[derive(Clone, Copy)]
 pub enum Step {
     On(usize),
     End,

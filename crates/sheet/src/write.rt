@@ -20,7 +20,7 @@ use grid::{Answer, Refusal, Size};
 use mask::stick_count;
 
 // Writing's answer: done, with the sheet's length, or refused with the question and its place.
-#[derive(Drop)]
+#[derive(Clone, Copy)]
 pub enum Written {
     Done(usize),
     Refused(Refusal, usize),

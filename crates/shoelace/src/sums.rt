@@ -13,7 +13,7 @@ use mask::stick_byte;
 use table::{entry_at, is_kept};
 
 // The sum over the drawn edges so far, and how many they are.
-#[derive(Drop)]
+#[derive(Clone, Copy)]
 pub struct Running {
     pub sum: i64,
     pub edges: usize,

@@ -8,7 +8,7 @@ use bitset::{EdgeSet, WORDS};
 use grid::{Answer, Refusal, Size};
 
 // Simplify's answer: the vertices removed and the runs tried, or refused with the question and its place.
-#[derive(Drop)]
+#[derive(Clone, Copy)]
 pub enum Simplified {
     Done { removed: usize, tried: usize },
     Refused(Refusal, usize),

@@ -15,14 +15,14 @@ const LONG_CONTOUR: usize = 4096;
 const ROOM: usize = 22;
 
 // A run that waits: how many edges it has, and the stick where it ends.
-#[derive(Drop)]
+#[derive(Clone, Copy)]
 pub struct Run {
     pub edges: usize,
     pub end: Edge,
 }
 
 // How many vertices were removed, and how many runs tried.
-#[derive(Drop)]
+#[derive(Clone, Copy)]
 pub struct RunCounts {
     pub removed: usize,
     pub tried: usize,

@@ -13,7 +13,7 @@ use step::{next_stick, previous_stick};
 use table::{Entry, encoded_of, has_pin, offset_of};
 
 // What a step gives: the offset after it, and the absolute change.
-#[derive(Drop)]
+#[derive(Clone, Copy)]
 struct Stepped {
     offset: u8,
     change: usize,
@@ -51,7 +51,7 @@ fn visit(table: &mut [u16], at: usize, e: Edge, p: Position, q: Position) -> Ste
 }
 
 // What a pass over a contour gives: the sum of the absolute changes, and how many vertices were visited.
-#[derive(Drop)]
+#[derive(Clone, Copy)]
 pub struct PassCounts {
     pub total: usize,
     pub vertices: usize,

@@ -11,7 +11,7 @@ use contour::{first_contour, next_contour};
 use grid::{Edge, Size};
 
 // The passes made, the total of the last one and whether smoothing is settled: of one contour, or the largest, the sum and all of several.
-#[derive(Drop)]
+#[derive(Clone, Copy)]
 pub struct Settling {
     pub passes: usize,
     pub total: usize,

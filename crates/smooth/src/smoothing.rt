@@ -9,7 +9,7 @@ use grid::{Answer, Refusal, Size};
 
 // Smooth's answer: the largest number of passes of any contour, the sum of their last totals and whether all are settled, or refused with the
 // question and its place.
-#[derive(Drop)]
+#[derive(Clone, Copy)]
 pub enum Smoothing {
     Done {
         passes: usize,

@@ -4,7 +4,7 @@ ghost use Rattle.step.specs.Cells.{side_index, side_at, linked_in, edge_of};
 
 use grid::Edge;
 
-#[derive(Drop)]
+#[derive(Clone, Copy)]
 pub enum Side {
     South,
     East,
@@ -12,7 +12,7 @@ pub enum Side {
     West,
 }
 
-#[derive(Drop)]
+#[derive(Clone, Copy)]
 pub struct CellSide {
     pub column: usize,
     pub row: usize,

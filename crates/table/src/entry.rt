@@ -5,7 +5,7 @@ ghost use Rattle.table.specs.Vertices.{is_pinned, offset_in};
 
 // What an entry says of its edge: no stick, a vertex at an offset, kept, removed, or kept and pinned, or a number that no entry may have. `Kept`
 // is not pinned; `is_kept` says yes of both.
-#[derive(Drop)]
+#[derive(Clone, Copy)]
 pub enum Entry {
     Nothing,
     Kept(u8),

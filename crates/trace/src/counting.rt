@@ -6,7 +6,7 @@ ghost use Rattle.trace.specs.Counts.{figures_of, counts_of};
 use grid::{Answer, Refusal, Size};
 
 // Counts' answer: the inside samples, the sticks and the contours, or refused with the question and its place.
-#[derive(Drop)]
+#[derive(Clone, Copy)]
 pub enum Counted {
     Done {
         inside: usize,

@@ -7,7 +7,7 @@ use super::fill::fill_table;
 use grid::{Answer, Refusal, Size};
 
 // Trace's answer: done, or refused with the question and its place.
-#[derive(Drop)]
+#[derive(Clone, Copy)]
 pub enum Traced {
     Done,
     Refused(Refusal, usize),

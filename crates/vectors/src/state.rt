@@ -6,7 +6,7 @@ use super::{line, script};
 
 // The bitmap and the table stand in slices of their own, and are their first `bytes` and their first `entries` elements. The
 // letter is 0 where no command may follow.
-#[derive(Drop)]
+#[derive(Clone, Copy)]
 pub struct State {
     pub w: u16,
     pub h: u16,

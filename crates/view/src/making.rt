@@ -7,7 +7,7 @@ ghost use Rattle.view.specs.View.{view_of, made_of, part_of, sample_or_outside};
 use grid::{Answer, Size};
 
 // A view without the part of the bitmap that it refers to.
-#[derive(Drop)]
+#[derive(Clone, Copy)]
 pub struct Made {
     pub width: u16,
     pub height: u16,

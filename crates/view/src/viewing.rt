@@ -7,7 +7,7 @@ ghost use Rattle.view.specs.View.{shown, view_of, sample_or_outside, sample_of};
 use super::making::{made_of, part_of, sample_of};
 
 // A lent bitmap with its sides, or an empty part with sides 0 and the number and place of the refusal.
-#[derive(Drop)]
+#[derive(Clone, Copy)]
 pub struct View<'a> {
     pub bitmap: &'a [u8],
     pub width: u16,
@@ -17,7 +17,7 @@ pub struct View<'a> {
 }
 
 // The answer of `sample_at`: number and place of the refusal, both 0 if there is none, and whether the sample is inside.
-#[derive(Drop)]
+#[derive(Clone, Copy)]
 pub struct Sampled {
     pub number: u32,
     pub place: usize,
