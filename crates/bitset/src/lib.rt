@@ -1,4 +1,6 @@
 // Sets of horizontal edges, one bit for each number.
+#![tactic(auto)]
+
 mod set;
 
 pub use set::{

@@ -1,4 +1,6 @@
 // The sticks among eight edges of a row as the bits of a byte, and by such bytes how many inside samples and sticks a layer has.
+#![tactic(auto)]
+
 mod count;
 mod mask;
 

@@ -1,4 +1,6 @@
 // The layer view: a record that refers to a lent bitmap and gives one sample at a time.
+#![tactic(auto)]
+
 mod making;
 mod viewing;
 

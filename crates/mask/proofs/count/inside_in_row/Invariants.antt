@@ -1,0 +1,10 @@
+use Prim.Native.Nat.{◌-◌}
+use Rattle.arith.proofs.Counting.{CountedTo}
+use Rattle.grid.specs.Layer.{layer_of, stride, sample_in}
+use Rattle.mask.proofs.count.inside_in_row.Given as goal
+
+abbrev pub invariant-loop-at : goal.invariant-loop-at
+invariant-loop-at l = CountedTo (sample_in (layer_of l.size l.bitmap) l.row) 8 (stride l.size) l.at l.total
+
+abbrev pub decreases-loop-at : goal.decreases-loop-at
+decreases-loop-at l = l.bytes - l.at

@@ -1,0 +1,27 @@
+-- `stick_count_lem` meets its contract.
+use mathlib.Core.Path.{◌≡◌, ap₂, sym, ◌∙◌}
+use Prim.Native.Nat.{◌+◌}
+use native.Mathlib.Omega.{arith}
+use Rattle.arith.proofs.Ranges.{count-le}
+use Rattle.grid.specs.Layer.{layer_of}
+use Rattle.grid.specs.Edges.{edge_count, stick_at}
+use Rattle.grid.proofs.Numbers.{edges-small}
+use Rattle.mask.specs.Counts.{stick_count}
+use Rattle.mask.proofs.Ones.{sticks-kinds}
+use Rattle.mask.proofs.count.stick_count.Goals as goal
+use Rattle.mask.proofs.count.stick_count.Goals.{After-sticks_of_kind-2}
+
+total : (c : After-sticks_of_kind-2)
+    → let a = c.args in
+    c.sticks_of_kind.result + c.sticks_of_kind-2.result ≡ stick_count (layer_of a.size a.bitmap.now)
+total c =
+    ap₂ ◌+◌ c.sticks_of_kind.ensures c.sticks_of_kind-2.ensures ∙ sym (sticks-kinds c.requires)
+
+pub overflow_add-result : goal.overflow_add-result
+overflow_add-result c =
+    let a = c.args in
+    let most = count-le (stick_at (layer_of a.size a.bitmap.now)) (edge_count a.size) in
+    omega (arith, total c, most, edges-small a.size c.requires.whole.sized)
+
+pub returns : goal.returns
+returns c = total c
