@@ -1,5 +1,7 @@
 // Chords: where a vertex is, whether a chord crosses a stick, or a number of sticks that follow one another on a contour, and whether a
 // vertex slides to it within a tolerance.
+#![tactic(auto)]
+
 mod cross;
 mod position;
 mod run;

@@ -1,4 +1,6 @@
 // Contours: the set of their first sticks in linear time, a cursor from one to the next, and how many there are.
+#![tactic(auto)]
+
 mod count;
 mod cursor;
 mod edge;

@@ -16,8 +16,7 @@ pub returns-in-No : goal.returns-in-No
 returns-in-No c =
     let a = c.args in
     let L = layer_of (size_of a.w a.h) a.bitmap.now in
-    let answer = c.answer-1 in
-    let q = answer.given.0.0 in
-    let place = answer.given.0.1.0 in
+    let q = c.in-No.q in
+    let place = c.in-No.place in
     (λ i. record { width = 0; height = 0; number = c.refusal_number.ensures i; place = place })
-    ∙ sym (ap made_of (view-is L (No q place) (sym c.ask_layer-answer.ensures ∙ answer.given.1)))
+    ∙ sym (ap made_of (view-is L (No q place) (sym c.ask_layer-answer.ensures ∙ c.in-No.is)))
