@@ -1,4 +1,6 @@
 // Drawn edges: where a vertex lies, and the next and the previous kept vertex of a contour.
+#![tactic(auto)]
+
 mod vertex;
 mod walk;
 

@@ -1,4 +1,6 @@
 // Which contours lie within which: the set of sticks on bores, and a cursor over the contours that knows the depth of each.
+#![tactic(auto)]
+
 mod bore;
 mod cursor;
 mod sweep;

@@ -1,4 +1,6 @@
 // The hold table: an entry taken apart and stored, questions 5, 6 and 15, and how many vertices are kept.
+#![tactic(auto)]
+
 mod count;
 mod entry;
 mod question;

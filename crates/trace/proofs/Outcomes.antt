@@ -17,7 +17,6 @@ use Rattle.table.proofs.Lengths.{lengths-of}
 use Rattle.trace.specs.Trace.{traced_entry, trace_of, outcome}
 use Rattle.trace.specs.Counts.{counts_of, figures_of}
 use Rattle.trace.specs.declared.tracing.Traced.{Traced}
-use Rattle.trace.specs.declared.tracing.Traced.TheVariants as Traced
 use Rattle.trace.specs.declared.counting.Counted.TheVariants as Counted
 
 module _ (L : Layer) (t : List ℕ) where

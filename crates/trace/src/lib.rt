@@ -1,4 +1,6 @@
 // The public calls Trace and Counts.
+#![tactic(auto)]
+
 mod counting;
 mod fill;
 mod tracing;
