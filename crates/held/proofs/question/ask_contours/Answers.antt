@@ -1,6 +1,5 @@
 -- `ask_contours` meets its contract. The invariant: the first contour that is not held, of those from here on, is the first of all.
 use mathlib.Core.Path.{sym, ◌∙◌}
-use Rattle.contour.specs.Cursors.{left}
 use Rattle.contour.proofs.Cursors.{here-stick, fewer}
 use Rattle.held.proofs.Asking.{ask-start, ask-no, ask-next, ask-end}
 use Rattle.held.proofs.question.ask_contours.Goals as goal

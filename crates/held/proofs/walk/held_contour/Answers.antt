@@ -3,7 +3,6 @@
 use mathlib.Core.Path.{◌≡◌, sym, ap, ◌∙◌}
 use Prim.Native.Nat.{◌+◌}
 use native.Mathlib.Omega.{arith}
-use borrow.Author.Tests.{not-false}
 use Rattle.arith.specs.Booleans.{as_number}
 use Rattle.grid.specs.Layer.{layer_of}
 use Rattle.contour.specs.Contours.{walk_of}
@@ -74,20 +73,20 @@ loop-size-preserved c =
     let went : (let a = c.args in
     let L = layer_of a.size a.bitmap.now in
     Cleared L a.table.now c.loop-size.e
-    × (c.if-is_kept.auto ≡ c.loop-size.auto + as_number (kept_at L a.table.now c.loop-size.e))) =
+    × (c.if-is_kept.kept ≡ c.loop-size.kept + as_number (kept_at L a.table.now c.loop-size.e))) =
     let a = c.args in
     let L = layer_of a.size a.bitmap.now in
     let t = a.table.now in
     let e = c.loop-size.e in
     let kept = kept_is in
     elim c.if-is_kept.branch [
-      | goal.then-is_kept w ↦
+      | goal.then-is_kept+else-not-held_at w ↦
           let yes = kept ∙ w.if-is_kept.true in
-          let crossed = sym w.held_at.ensures ∙ not-false _ w.2.left in
-          (cleared-kept L t e yes crossed, omega (arith, w.3, ap as_number yes))
+          let crossed = sym w.held_at.ensures ∙ w.if-not-held_at.false in
+          (cleared-kept L t e yes crossed, omega (arith, w.kept-is, ap as_number yes))
       | goal.else-is_kept w ↦
           let none = kept ∙ w.if-is_kept.false in
-          (cleared-none L t e none, omega (arith, w.1, ap as_number none))
+          (cleared-none L t e none, omega (arith, w.kept-is, ap as_number none))
     ] in
     let w = went in
     counted-turn c.requires.sound c.loop-size.invariant c.next_stick-e.ensures w.0 w.1
@@ -102,20 +101,20 @@ returns c =
     let went : (let a = c.args in
     let L = layer_of a.size a.bitmap.now in
     Cleared L a.table.now c.loop-size.e
-    × (c.if-is_kept.auto ≡ c.loop-size.auto + as_number (kept_at L a.table.now c.loop-size.e))) =
+    × (c.if-is_kept.kept ≡ c.loop-size.kept + as_number (kept_at L a.table.now c.loop-size.e))) =
     let a = c.args in
     let L = layer_of a.size a.bitmap.now in
     let t = a.table.now in
     let e = c.loop-size.e in
     let kept = kept_is in
     elim c.if-is_kept.branch [
-      | goal.then-is_kept w ↦
+      | goal.then-is_kept+else-not-held_at w ↦
           let yes = kept ∙ w.if-is_kept.true in
-          let crossed = sym w.held_at.ensures ∙ not-false _ w.2.left in
-          (cleared-kept L t e yes crossed, omega (arith, w.3, ap as_number yes))
+          let crossed = sym w.held_at.ensures ∙ w.if-not-held_at.false in
+          (cleared-kept L t e yes crossed, omega (arith, w.kept-is, ap as_number yes))
       | goal.else-is_kept w ↦
           let none = kept ∙ w.if-is_kept.false in
-          (cleared-none L t e none, omega (arith, w.1, ap as_number none))
+          (cleared-none L t e none, omega (arith, w.kept-is, ap as_number none))
     ] in
     let w = went in
     counted-last c.requires.sound c.loop-size.invariant c.next_stick-e.ensures w.0 w.1
