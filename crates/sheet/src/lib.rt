@@ -1,4 +1,6 @@
 // Sheets: what the commands of one are, and the call that writes one from a held layer.
+#![tactic(auto)]
+
 mod bytes;
 mod command;
 mod walk;

@@ -1,4 +1,6 @@
 // The shoelace formula over the drawn edges of a layer: what one adds to twice the area (adds), and the sum after each (sums).
+#![tactic(auto)]
+
 mod adds;
 mod sums;
 

@@ -1,0 +1,54 @@
+-- `ask_removal` meets its contract. `unpinned` is question 16 answered yes, from which the rest goes on; `laid` is the joined edge.
+use mathlib.Core.Path.{◌≡◌, sym, ◌∙◌}
+use mathlib.Core.Bool.{true, true≢false}
+use Rattle.grid.specs.Layer.{layer_of}
+use Rattle.edit.specs.Edits.{may_move}
+use Rattle.edit.proofs.Asked.{yes_of, no_of, editable, named-entry, pinned-no, unpinned-yes, removal-pinned, removal-missed, removal-far, removal-done, removal-third-left}
+use Rattle.edit.proofs.edit.ask_removal.Goals as goal
+
+pub carries_pin-requires : goal.carries_pin-requires
+carries_pin-requires c = named-entry c.requires
+
+pub returns-then-carries_pin : goal.returns-then-carries_pin
+returns-then-carries_pin c =
+    removal-pinned c.args.t c.args.place c.requires (pinned-no _ _ c.args.stick c.carries_pin.ensures c.if-carries_pin.true)
+
+pub joined-over-requires : goal.joined-over-requires
+joined-over-requires c = editable c.requires c.edge_named-e.ensures
+
+pub returns-then-not-crosses_all : goal.returns-then-not-crosses_all
+returns-then-not-crosses_all c =
+    let unpinned : (let a = c.args in may_move (layer_of a.size a.bitmap.now) a.table.now a.stick ≡ true) =
+    unpinned-yes _ _ c.args.stick c.carries_pin.ensures c.if-carries_pin.false in
+    removal-missed c.args.t c.args.place c.requires unpinned c.edge_named-e.ensures
+    c.joined-over.ensures.value (no_of c.crosses_all.ensures c.if-not-crosses_all.true-raw)
+
+pub returns-then-not-within_all : goal.returns-then-not-within_all
+returns-then-not-within_all c =
+    let unpinned : (let a = c.args in may_move (layer_of a.size a.bitmap.now) a.table.now a.stick ≡ true) =
+    unpinned-yes _ _ c.args.stick c.carries_pin.ensures c.if-carries_pin.false in
+    removal-far c.args.t c.args.place c.requires unpinned c.edge_named-e.ensures
+    c.joined-over.ensures.value (yes_of c.crosses_all.ensures c.if-not-crosses_all.false-raw)
+    (no_of c.within_all.ensures c.if-not-within_all.true-raw)
+
+pub leaves_three-requires : goal.leaves_three-requires
+leaves_three-requires c =
+    editable c.requires c.edge_named-e.ensures
+
+-- after a yes to question 11 there are three left
+pub returns-then-not-leaves_three : goal.returns-then-not-leaves_three
+returns-then-not-leaves_three c =
+    let unpinned : (let a = c.args in may_move (layer_of a.size a.bitmap.now) a.table.now a.stick ≡ true) =
+    unpinned-yes _ _ c.args.stick c.carries_pin.ensures c.if-carries_pin.false in
+    let left =
+    removal-third-left c.args.t c.args.place c.requires unpinned c.edge_named-e.ensures
+    c.joined-over.ensures.value (yes_of c.crosses_all.ensures c.if-not-crosses_all.false-raw) in
+    absurd (true≢false (sym left ∙ no_of c.leaves_three.ensures c.if-not-leaves_three.true-raw))
+
+pub returns : goal.returns
+returns c =
+    let unpinned : (let a = c.args in may_move (layer_of a.size a.bitmap.now) a.table.now a.stick ≡ true) =
+    unpinned-yes _ _ c.args.stick c.carries_pin.ensures c.if-carries_pin.false in
+    removal-done c.args.t c.args.place c.requires unpinned c.edge_named-e.ensures
+    c.joined-over.ensures.value (yes_of c.crosses_all.ensures c.if-not-crosses_all.false-raw)
+    (yes_of c.within_all.ensures c.if-not-within_all.false-raw)

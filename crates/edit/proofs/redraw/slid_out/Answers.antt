@@ -1,0 +1,23 @@
+-- `slid_out` meets its contract.
+use Rattle.table.specs.Vertices.{offset_at}
+use Rattle.edit.proofs.Redrawn.{read_at, walk_from, near-at, inside_of, slide-out}
+use Rattle.edit.proofs.redraw.slid_out.Goals as goal
+
+pub kept_after-after-requires : goal.kept_after-after-requires
+kept_after-after-requires c = record { lent_at = (walk_from c.requires.at).0; e_value = (walk_from c.requires.at).1 }
+
+pub position_of-requires : goal.position_of-requires
+position_of-requires c = near-at c.requires.at
+
+pub vertex_at-requires : goal.vertex_at-requires
+vertex_at-requires c = read_at c.requires.at.accepted _ c.kept_after-after.ensures.stick
+
+pub returns : goal.returns
+unfolding offset_at
+returns c =
+    let given = c.requires in
+    record {
+      value = slide-out given.at (inside_of _ given.offset) c.position_of.ensures.value c.vertex_at.ensures.value
+          c.kept_after-after.ensures.kept c.kept_after-after.ensures.gap;
+      chord_on = record { sound = given.at.accepted.sound; p_near = c.position_of.ensures.near; q_near = c.vertex_at.ensures.near; stick = given.at.drawn.stick };
+    }

@@ -1,0 +1,49 @@
+-- `edge_adds` meets its contract.
+use mathlib.Core.Path.{◌≡◌, ap, ◌∙◌}
+use Rattle.arith.proofs.Bounds.{sized, exact, within}
+use Rattle.grid.specs.Layer.{layer_of}
+use Rattle.grid.specs.declared.edge.Edge.{Edge}
+use Rattle.table.specs.Vertices.{offset_at}
+use Rattle.table.specs.Lent.{LentAt}
+use Rattle.table.proofs.Lent.{has-entry}
+use Rattle.drawn.specs.Neighbours.{next_kept}
+use Rattle.drawn.specs.Drawn.{vertex}
+use Rattle.drawn.proofs.Gaps.{kept-not-removed}
+use Rattle.shoelace.specs.Adds.{cross}
+use Rattle.shoelace.proofs.Running.{lent_at}
+use Rattle.shoelace.proofs.adds.edge_adds.Goals as goal
+
+pub kept_after-end-requires : goal.kept_after-end-requires
+kept_after-end-requires c =
+    let given : (let a = c.args in LentAt (layer_of a.size a.bitmap.now) a.table.now a.e) =
+    lent_at c.requires.held_stick in
+    let a = c.args in
+    record { lent_at = given; e_value = kept-not-removed (layer_of a.size a.bitmap.now) a.table.now a.e c.requires.e_value }
+
+pub vertex_at-requires : goal.vertex_at-requires
+vertex_at-requires c =
+    let given : (let a = c.args in LentAt (layer_of a.size a.bitmap.now) a.table.now a.e) =
+    lent_at c.requires.held_stick in
+    has-entry (given)
+
+pub vertex_at-requires-2 : goal.vertex_at-requires-2
+vertex_at-requires-2 c =
+    let given : (let a = c.args in LentAt (layer_of a.size a.bitmap.now) a.table.now a.e) =
+    lent_at c.requires.held_stick in
+    let lent = given in
+    has-entry (record { sound = lent.sound; exact = lent.exact; stick = c.kept_after-end.ensures.stick })
+
+pub cross_of-requires : goal.cross_of-requires
+cross_of-requires c = record { near = c.vertex_at.ensures.near; near_2 = c.vertex_at-2.ensures.near }
+
+pub returns : goal.returns
+unfolding offset_at
+returns c =
+    let a = c.args in
+    let L = layer_of a.size a.bitmap.now in
+    let t = a.table.now in
+    let p : c.vertex_at.result ≡ vertex L t a.e = c.vertex_at.ensures.value in
+    let last : Edge = next_kept L t a.e in
+    let q : c.vertex_at-2.result ≡ vertex L t last = c.vertex_at-2.ensures.value ∙ ap (vertex L t) {y = last} c.kept_after-end.ensures.kept in
+    let small = c.cross_of.ensures.result_bound in
+    record { value = exact (search sized depth 9) tt ∙ c.cross_of.ensures.value ∙ (λ i. cross (p i) (q i)); result_bound = within (search sized depth 9) tt }
