@@ -1,4 +1,4 @@
--- `floor_div_lem` meets its contract: by the sign of the numerator.
+-- `floor_div` meets its contract: by the sign of the numerator.
 use mathlib.Core.Path.{◌∙◌}
 use Prim.Native.Nat.{◌^◌, ◌≤◌}
 use native.Mathlib.Omega.{arith}
@@ -7,7 +7,7 @@ use lib.Signed.{le_z}
 use mir.Syntax.{w64}
 use mir.Val.{to_z, of_z}
 use Rattle.arith.specs.Nearest.{floor_div}
-use Rattle.arith.proofs.Bounds.{sized, in-range, exact, with_size}
+use Rattle.arith.proofs.Bounds.{sized, in-range, exact}
 use Rattle.offset.proofs.Division.{above-bits, floor-up, floor-down, floor-size, test-exact}
 use Rattle.offset.proofs.offset.floor_div.Goals as goal
 use Rattle.offset.proofs.offset.floor_div.Goals.{Start}
@@ -30,16 +30,22 @@ nonzero_div-result-else-t-ge0 c = let given = c.requires in (above-bits w64 c.ar
 pub overflow_sub-result-else-t-ge0-2 : goal.overflow_sub-result-else-t-ge0-2
 overflow_sub-result-else-t-ge0-2 c = in-range (search sized depth 12) tt
 
-pub returns-then-t-ge0 : goal.returns-then-t-ge0
-returns-then-t-ge0 c =
+pub returns-then-t-ge0-clause-value : goal.returns-then-t-ge0-clause-value
+returns-then-t-ge0-clause-value c =
     let given = c.requires in
     let a = c.args in
     let up = test-exact (le_z (pos 0)) {z = to_z w64 (of_z w64 a.t)} (search sized depth 9) tt c.if-t-ge0.true in
-    record { value = (with_size _ (exact (search sized depth 12) tt ∙ floor-up a.t a.m given.above up) (quotient-size c.before)).0; result_bound = (with_size _ (exact (search sized depth 12) tt ∙ floor-up a.t a.m given.above up) (quotient-size c.before)).1 }
+    exact (search sized depth 12) tt ∙ floor-up a.t a.m given.above up
 
-pub returns-else-t-ge0 : goal.returns-else-t-ge0
-returns-else-t-ge0 c =
+pub returns-then-t-ge0-clause-result_bound : goal.returns-then-t-ge0-clause-result_bound
+returns-then-t-ge0-clause-result_bound c = rw (returns-then-t-ge0-clause-value c) (quotient-size c.before)
+
+pub returns-else-t-ge0-clause-value : goal.returns-else-t-ge0-clause-value
+returns-else-t-ge0-clause-value c =
     let given = c.requires in
     let a = c.args in
     let down = test-exact (le_z (pos 0)) {z = to_z w64 (of_z w64 a.t)} (search sized depth 9) tt c.if-t-ge0.false in
-    record { value = (with_size _ (exact (search sized depth 12) tt ∙ floor-down a.t a.m given.above down) (quotient-size c.before)).0; result_bound = (with_size _ (exact (search sized depth 12) tt ∙ floor-down a.t a.m given.above down) (quotient-size c.before)).1 }
+    exact (search sized depth 12) tt ∙ floor-down a.t a.m given.above down
+
+pub returns-else-t-ge0-clause-result_bound : goal.returns-else-t-ge0-clause-result_bound
+returns-else-t-ge0-clause-result_bound c = rw (returns-else-t-ge0-clause-value c) (quotient-size c.before)

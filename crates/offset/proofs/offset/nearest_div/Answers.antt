@@ -29,10 +29,10 @@ taken-off c =
     elim c.if-n-d.branch [
       | goal.then-n-d w ↦
           let above = lt_z-true (middle *ℤ d) n (test-is c.before ∙ w.if-n-d.true) in
-          record { few = omega (arith, w.less-is); up_to = λ z. absurd (omega (arith, w.less-is)); above = λ o. omega arithℤ }
+          record { few = omega arith; up_to = λ z. absurd (omega arith); above = λ o. omega arithℤ }
       | goal.else-n-d w ↦
           let up_to = lt_z-false (middle *ℤ d) n (test-is c.before ∙ w.if-n-d.false) in
-          record { few = omega (arith, w.less-is); up_to = λ z. omega arithℤ; above = λ o. absurd (omega (arith, w.less-is)) }
+          record { few = omega arith; up_to = λ z. omega arithℤ; above = λ o. absurd (omega arith) }
     ]
 
 pub overflow_mul-d : goal.overflow_mul-d

@@ -1,4 +1,4 @@
--- `new_offset_lem` meets its contract. The spread is not 0, as the neighbours lie on different sides, so the division is defined; its result is a
+-- `new_offset` meets its contract. The spread is not 0, as the neighbours lie on different sides, so the division is defined; its result is a
 -- byte since the new offset is inside. `sized` bounds each signed product.
 use mathlib.Core.Path.{◌≡◌, sym, ap, ◌∙◌}
 use lib.IntN.{ℤ, pos, nat_abs}
@@ -24,12 +24,12 @@ rounds : (c : After-rounded_of)
 rounds c =
     let k-size = c.shift_of-n.ensures.result_bound in
     let n_size = c.signed_by.ensures.result_bound in
-    let s_size = c.type_size.ensures.1 in
+    let s_size = c.size_of.ensures.result_bound in
     let r-size = c.rounded_of.ensures.result_bound in
     let d = spread-is c.before.before.before.before in
     let k = exact {z = to_z w64 (of_z w64 c.shift_of-n.result)} (search sized depth 9) tt ∙ c.shift_of-n.ensures.value in
     let n = exact {z = to_z w64 (of_z w64 c.signed_by.result)} (search sized depth 9) tt ∙ c.signed_by.ensures.value in
-    let s = exact {z = to_z w64 (of_z w64 c.type_size.result)} (search sized depth 9) tt ∙ c.type_size.ensures.0 in
+    let s = exact {z = to_z w64 (of_z w64 c.size_of.result)} (search sized depth 9) tt ∙ c.size_of.ensures.value in
     let n' = n ∙ (λ i. signed_by (k i) (d i)) in
     let s' = s ∙ (λ i. pos (nat_abs (d i))) in
     exact (search sized depth 9) tt ∙ c.rounded_of.ensures.value ∙ (λ i. rounded c.args.old (n' i) (nat_abs (s' i)))
@@ -38,9 +38,9 @@ rounds c =
 pub rounded_of-requires : goal.rounded_of-requires
 rounded_of-requires c =
     let n_size = c.signed_by.ensures.result_bound in
-    let d_size = c.type_size.ensures.1 in
+    let d_size = c.size_of.ensures.result_bound in
     let some = spread-some c.requires.around in
-    let is = c.type_size.ensures.0 ∙ ap (λ (x : ℤ). pos (nat_abs x)) (spread-is c.before.before.before) in
+    let is = c.size_of.ensures.value ∙ ap (λ (x : ℤ). pos (nat_abs x)) (spread-is c.before.before.before) in
     record {
       n_size = within (search sized depth 9) tt;
       d_size = within (search sized depth 9) tt;
