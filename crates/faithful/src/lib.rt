@@ -1,1 +1,2 @@
 // That a held layer is faithful: definitions and theorems alone, in specs/ and proofs/.
+#![tactic(auto)]

@@ -16,7 +16,6 @@ use Rattle.held.proofs.Asking.{kept-of-yes}
 use Rattle.smooth.specs.Smooth.{Smoothed, smooth, Smoothable}
 use Rattle.smooth.specs.Call.{Outcome, refused_with, done_with, answered, asked, smooth_of, outcome}
 use Rattle.smooth.specs.declared.smoothing.Smoothing.{Smoothing}
-use Rattle.smooth.specs.declared.smoothing.Smoothing.TheVariants as Smoothing
 use Rattle.smooth.proofs.Walking.{smoothable-kept}
 use Rattle.smooth.proofs.Rounds.{smooth-kept}
 

@@ -1,4 +1,4 @@
--- `slides_within_lem` meets its contract.
+-- `slides_within` meets its contract.
 use mathlib.Core.Path.{◌∙◌}
 use Prim.Native.Nat.{◌+◌, ◌*◌}
 use native.Mathlib.Omega.{arith}

@@ -1,4 +1,4 @@
--- `crosses_run_lem` meets its contract. The invariant: the sticks that are left are crossed if all are.
+-- `crosses_run` meets its contract. The invariant: the sticks that are left are crossed if all are.
 use mathlib.Core.Path.{sym, ◌∙◌}
 use Rattle.step.proofs.Following.{on-next, tests-no, tests-turn, tests-end}
 use Rattle.chord.proofs.Tests.{stick-near, run-start}

@@ -16,7 +16,7 @@ here : (k : After-edge_named-e)
 here k =
     record {
       at = editable k.requires k.edge_named-e.ensures;
-      offset = good-offset k.args.offset k.if-offset-lt1.false (omega (arith, k.good));
+      offset = good-offset k.args.offset k.if-offset-lt1.false (omega (arith, k.ranges.offset.fits));
     }
 
 pub carries_pin-is_pinned-requires : goal.carries_pin-is_pinned-requires
@@ -42,7 +42,7 @@ slid_out-out-requires c =
     Slidable (layer_of a.size a.bitmap.now) a.table.now c.edge_named-e.result a.offset) =
     record {
       at = editable c.requires c.edge_named-e.ensures;
-      offset = good-offset c.args.offset c.if-offset-lt1.false (omega (arith, c.good));
+      offset = good-offset c.args.offset c.if-offset-lt1.false (omega (arith, c.ranges.offset.fits));
     } in
     here
 
@@ -58,7 +58,7 @@ returns c =
     Slidable (layer_of a.size a.bitmap.now) a.table.now c.edge_named-e.result a.offset) =
     record {
       at = editable c.requires c.edge_named-e.ensures;
-      offset = good-offset c.args.offset c.if-offset-lt1.false (omega (arith, c.good));
+      offset = good-offset c.args.offset c.if-offset-lt1.false (omega (arith, c.ranges.offset.fits));
     } in
     c.ask_chords.ensures
     ∙ slide-asked c.args.t c.args.place c.requires c.args.offset unpinned c.edge_named-e.ensures here

@@ -1,4 +1,4 @@
--- `in_samples_lem` meets its contract: neither the cast nor the division loses anything.
+-- `in_samples` meets its contract: neither the cast nor the division loses anything.
 use mathlib.Core.Path.{ap}
 use lib.IntN.{pos}
 use lib.Ieee.{Float, binary64, of_int, div}

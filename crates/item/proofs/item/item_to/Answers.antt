@@ -1,4 +1,4 @@
--- `item_to_lem` meets its contract.
+-- `item_to` meets its contract.
 use mathlib.Core.Path.{sym, ap}
 use mathlib.Core.Bool.{Bool}
 use Rattle.item.specs.Items.{item_to}

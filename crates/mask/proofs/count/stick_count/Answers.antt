@@ -1,4 +1,4 @@
--- `stick_count_lem` meets its contract.
+-- `stick_count` meets its contract.
 use mathlib.Core.Path.{◌≡◌, ap₂, sym, ◌∙◌}
 use Prim.Native.Nat.{◌+◌}
 use native.Mathlib.Omega.{arith}

@@ -6,8 +6,8 @@ use Rattle.shoelace.proofs.sums.sums_in_byte.Given as goal
 
 abbrev pub invariant-loop-left : goal.invariant-loop-left
 invariant-loop-left l =
-    ByteRun (layer_of l.size l.bitmap) l.table l.vertical l.row l.at (spot l.size l.vertical l.row (8 * l.at)) (record { output = l.initial.sums; l.running = l.initial.running }) l.left l.column
-    (record { output = l.sums; l.running = l.running })
+    ByteRun (layer_of l.size l.bitmap) l.table l.vertical l.row l.at (spot l.size l.vertical l.row (8 * l.at)) (record { output = l.initial.sums; running = l.initial.running }) l.left l.column
+    (record { output = l.sums; running = l.running })
 
 abbrev pub decreases-loop-left : goal.decreases-loop-left
 decreases-loop-left l = 8 * l.at + 8 - l.column

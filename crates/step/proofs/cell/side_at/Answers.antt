@@ -1,4 +1,4 @@
--- `side_at_lem` meets its contract.
+-- `side_at` meets its contract.
 use mathlib.Core.Path.{◌≡◌, refl}
 use Prim.Native.Nat.{ℕ, zero, suc}
 use Rattle.step.specs.Cells.{side_at}

@@ -1,4 +1,4 @@
--- `entry_of_lem` meets its contract. A vertex is told by its number (`entry-encoded`); the numbers between those of vertices are wrong.
+-- `entry_of` meets its contract. A vertex is told by its number (`entry-encoded`); the numbers between those of vertices are wrong.
 use mathlib.Core.Path.{◌≡◌, sym, ◌∙◌, ap}
 use Prim.Native.Nat.{◌+◌, ◌%◌}
 use native.Mathlib.Omega.{arith}

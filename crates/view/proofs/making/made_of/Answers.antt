@@ -1,4 +1,4 @@
--- `made_of_lem` meets its contract: by the answer of the questions.
+-- `made_of` meets its contract: by the answer of the questions.
 use mathlib.Core.Path.{ap, sym, ◌∙◌}
 use Rattle.grid.specs.Layer.{layer_of, size_of}
 use Rattle.grid.specs.declared.question.Answer.TheVariants.{Yes, No}
