@@ -1,0 +1,61 @@
+-- `ask_roll` meets its contract. The invariant: the answer from here on is that of the whole roll.
+-- A command goes on by its length, or ends the loop with the answer at its place.
+use mathlib.Core.Logic.{inl, inr}
+use mathlib.Core.Path.{◌∙◌}
+use Prim.Native.Nat.{◌-◌}
+use native.Mathlib.Omega.{arith}
+use Rattle.roll.proofs.Forms.{formed-all, formed-slide, formed-removal, formed-pin, formed-end, formed-wrong, at-slide, at-slide-cut, at-removal, at-removal-cut, at_pin, at-pin-cut, at-end, at_other, at_none}
+use Rattle.roll.proofs.command.ask_roll.Goals as goal
+
+pub loop-at-init : goal.loop-at-init
+loop-at-init c = (omega arith, formed-all c.args.roll.now)
+
+pub returns-in-69 : goal.returns-in-69
+returns-in-69 c =
+    let r = c.args.roll.now in
+    c.ask_last.ensures ∙ formed-end r c.loop-at.at (at-end r c.loop-at.at c.in-69.is c.loop-at-test.true) ∙ c.loop-at.invariant.1
+
+pub returns-in_default : goal.returns-in_default
+returns-in_default c =
+    let at = c.loop-at.at in
+    let r = c.args.roll.now in
+    let rest = c.in_default.in_default-own.rest in
+    formed-wrong r at (at_other r at rest.0.0.0.1 rest.0.0.1 rest.0.1 rest.1) ∙ c.loop-at.invariant.1
+
+pub returns-then-length-at : goal.returns-then-length-at
+returns-then-length-at c =
+    let at = c.loop-at.at in
+    let r = c.args.roll.now in
+    let less = c.loop-at-test.true in
+    let short = c.if-length-at.true in
+    formed-wrong r at (elim c.match-byte.branch [
+      | inl w ↦ at-slide-cut r at w.0.keys1 (omega (arith, w.1))
+      | inr (inl w) ↦ at-removal-cut r at w.0.keys2 (omega (arith, w.1))
+      | inr (inr w) ↦ at-pin-cut r at w.0.keys3 (omega (arith, w.1))
+    ]) ∙ c.loop-at.invariant.1
+
+pub loop-at-smaller : goal.loop-at-smaller
+loop-at-smaller c =
+    elim c.match-byte.branch [
+      | inl w ↦ omega (arith, w.1)
+      | inr (inl w) ↦ omega (arith, w.1)
+      | inr (inr w) ↦ omega (arith, w.1)
+    ]
+
+pub loop-at-preserved : goal.loop-at-preserved
+loop-at-preserved c =
+    let at = c.loop-at.at in
+    let r = c.args.roll.now in
+    let whole = c.if-length-at.false in (
+      omega arith,
+      elim c.match-byte.branch [
+        | inl w ↦ rw w.1 (formed-slide r at (at-slide r at w.0.keys1 (omega (arith, w.1)))) ∙ c.loop-at.invariant.1
+        | inr (inl w) ↦ rw w.1 (formed-removal r at (at-removal r at w.0.keys2 (omega (arith, w.1)))) ∙ c.loop-at.invariant.1
+        | inr (inr w) ↦ rw w.1 (formed-pin r at (at_pin r at w.0.keys3 (omega (arith, w.1)))) ∙ c.loop-at.invariant.1
+      ],
+    )
+
+pub returns : goal.returns
+returns c =
+    let r = c.args.roll.now in
+    formed-wrong r c.loop-at.at (at_none r c.loop-at.at c.loop-at-test.false) ∙ c.loop-at.invariant.1
