@@ -29,7 +29,7 @@ pub next_stick-stick-requires : goal.next_stick-stick-requires
 next_stick-stick-requires c =
     let here : (let a = c.args in LentAt (layer_of a.size a.bitmap.now) a.table.now c.loop-kept.stick) =
     tally-here c.requires c.loop-kept.invariant in
-    let given = here in record { sound = given.sound; e_value = given.stick }
+    record { sound = here.sound; e_value = here.stick }
 
 pub loop-kept-smaller : goal.loop-kept-smaller
 loop-kept-smaller c =
@@ -39,11 +39,11 @@ pub loop-kept-preserved : goal.loop-kept-preserved
 unfolding kept_at
 loop-kept-preserved c =
     let worked : (let a = c.args in
-    c.if-is_kept.auto ≡ c.loop-kept.auto + as_number (kept_at (layer_of a.size a.bitmap.now) a.table.now c.loop-kept.stick)) =
+    c.if-is_kept.kept ≡ c.loop-kept.kept + as_number (kept_at (layer_of a.size a.bitmap.now) a.table.now c.loop-kept.stick)) =
     let kept = sym (c.is_kept.ensures ∙ ap is_kept c.entry_at.ensures) in
     elim c.if-is_kept.branch [
-      | goal.then-is_kept w ↦ omega (arith, w.1, ap as_number (kept ∙ w.if-is_kept.true))
-      | goal.else-is_kept w ↦ omega (arith, w.1, ap as_number (kept ∙ w.if-is_kept.false))
+      | goal.then-is_kept w ↦ omega (arith, w.kept-is, ap as_number (kept ∙ w.if-is_kept.true))
+      | goal.else-is_kept w ↦ omega (arith, w.kept-is, ap as_number (kept ∙ w.if-is_kept.false))
     ] in
     tally-turn c.requires c.loop-kept.invariant c.next_stick-stick.ensures worked
     (sym c.same_edge.ensures ∙ c.if-same_edge.false)
@@ -52,11 +52,11 @@ pub returns : goal.returns
 unfolding kept_at
 returns c =
     let worked : (let a = c.args in
-    c.if-is_kept.auto ≡ c.loop-kept.auto + as_number (kept_at (layer_of a.size a.bitmap.now) a.table.now c.loop-kept.stick)) =
+    c.if-is_kept.kept ≡ c.loop-kept.kept + as_number (kept_at (layer_of a.size a.bitmap.now) a.table.now c.loop-kept.stick)) =
     let kept = sym (c.is_kept.ensures ∙ ap is_kept c.entry_at.ensures) in
     elim c.if-is_kept.branch [
-      | goal.then-is_kept w ↦ omega (arith, w.1, ap as_number (kept ∙ w.if-is_kept.true))
-      | goal.else-is_kept w ↦ omega (arith, w.1, ap as_number (kept ∙ w.if-is_kept.false))
+      | goal.then-is_kept w ↦ omega (arith, w.kept-is, ap as_number (kept ∙ w.if-is_kept.true))
+      | goal.else-is_kept w ↦ omega (arith, w.kept-is, ap as_number (kept ∙ w.if-is_kept.false))
     ] in
     tally-last c.requires c.loop-kept.invariant c.next_stick-stick.ensures worked
     (sym c.same_edge.ensures ∙ c.if-same_edge.true)
