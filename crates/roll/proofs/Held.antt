@@ -16,7 +16,6 @@ use Rattle.roll.specs.Commands.{Command, command_at, roll_answer, slides, remove
 use Rattle.edit.specs.Edits.{Named, edge_named, slide_answer, removal_answer, pin_answer}
 use Rattle.roll.specs.Roll.{Outcome, run_from, roll_of, outcome}
 use Rattle.roll.specs.declared.rolling.Rolled.{Rolled}
-use Rattle.roll.specs.declared.rolling.Rolled.TheVariants as Rolled
 use Rattle.edit.proofs.Asked.{slide-keeps, slide-pins, removal-keeps, removal-pins, pin-keeps}
 use Rattle.roll.proofs.Steps.{run_by, refused}
 

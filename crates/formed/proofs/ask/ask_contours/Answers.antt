@@ -1,7 +1,6 @@
 -- `ask_contours` meets its contract. The invariant: the answer for the contours from here on is that for all of them.
 use mathlib.Core.Path.{◌∙◌}
 use borrow.Author.Tests.{not-true, not-false}
-use Rattle.contour.specs.Cursors.{left}
 use Rattle.contour.proofs.Cursors.{here-stick, fewer}
 use Rattle.formed.proofs.Asking.{sheet-start, sheet-no, sheet-next, sheet-end}
 use Rattle.formed.proofs.ask.ask_contours.Goals as goal

@@ -1,8 +1,6 @@
 -- `ask_roll` meets its contract. The invariant: the answer from here on is that of the whole roll.
 -- A command goes on by its length, or ends the loop with the answer at its place.
-use mathlib.Core.Logic.{inl, inr}
 use mathlib.Core.Path.{◌∙◌}
-use Prim.Native.Nat.{◌-◌}
 use native.Mathlib.Omega.{arith}
 use Rattle.roll.proofs.Forms.{formed-all, formed-slide, formed-removal, formed-pin, formed-end, formed-wrong, at-slide, at-slide-cut, at-removal, at-removal-cut, at_pin, at-pin-cut, at-end, at_other, at_none}
 use Rattle.roll.proofs.command.ask_roll.Goals as goal
@@ -29,17 +27,17 @@ returns-then-length-at c =
     let less = c.loop-at-test.true in
     let short = c.if-length-at.true in
     formed-wrong r at (elim c.match-byte.branch [
-      | inl w ↦ at-slide-cut r at w.0.keys1 (omega (arith, w.1))
-      | inr (inl w) ↦ at-removal-cut r at w.0.keys2 (omega (arith, w.1))
-      | inr (inr w) ↦ at-pin-cut r at w.0.keys3 (omega (arith, w.1))
+      | goal.in-83 w ↦ at-slide-cut r at w.in-83.is (omega (arith, w.width-is))
+      | goal.in-88 w ↦ at-removal-cut r at w.in-88.is (omega (arith, w.width-is))
+      | goal.in-80 w ↦ at-pin-cut r at w.in-80.is (omega (arith, w.width-is))
     ]) ∙ c.loop-at.invariant.1
 
 pub loop-at-smaller : goal.loop-at-smaller
 loop-at-smaller c =
     elim c.match-byte.branch [
-      | inl w ↦ omega (arith, w.1)
-      | inr (inl w) ↦ omega (arith, w.1)
-      | inr (inr w) ↦ omega (arith, w.1)
+      | goal.in-83 w ↦ omega (arith, w.width-is)
+      | goal.in-88 w ↦ omega (arith, w.width-is)
+      | goal.in-80 w ↦ omega (arith, w.width-is)
     ]
 
 pub loop-at-preserved : goal.loop-at-preserved
@@ -49,9 +47,9 @@ loop-at-preserved c =
     let whole = c.if-length-at.false in (
       omega arith,
       elim c.match-byte.branch [
-        | inl w ↦ rw w.1 (formed-slide r at (at-slide r at w.0.keys1 (omega (arith, w.1)))) ∙ c.loop-at.invariant.1
-        | inr (inl w) ↦ rw w.1 (formed-removal r at (at-removal r at w.0.keys2 (omega (arith, w.1)))) ∙ c.loop-at.invariant.1
-        | inr (inr w) ↦ rw w.1 (formed-pin r at (at_pin r at w.0.keys3 (omega (arith, w.1)))) ∙ c.loop-at.invariant.1
+        | goal.in-83 w ↦ rw w.width-is (formed-slide r at (at-slide r at w.in-83.is (omega (arith, w.width-is)))) ∙ c.loop-at.invariant.1
+        | goal.in-88 w ↦ rw w.width-is (formed-removal r at (at-removal r at w.in-88.is (omega (arith, w.width-is)))) ∙ c.loop-at.invariant.1
+        | goal.in-80 w ↦ rw w.width-is (formed-pin r at (at_pin r at w.in-80.is (omega (arith, w.width-is)))) ∙ c.loop-at.invariant.1
       ],
     )
 

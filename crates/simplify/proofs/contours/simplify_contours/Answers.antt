@@ -3,7 +3,6 @@
 use mathlib.Core.Path.{◌∙◌}
 use Prim.Native.Nat.{◌+◌, ◌≤◌}
 use native.Mathlib.Omega.{arith}
-use Rattle.contour.specs.Cursors.{left}
 use Rattle.contour.proofs.Cursors.{here-stick, fewer}
 use Rattle.simplify.proofs.Layers.{turns-start, turns, turned-most, turns-end}
 use Rattle.simplify.proofs.contours.simplify_contours.Goals as goal

@@ -45,12 +45,12 @@ loop-top-init c =
 pub overflow_sub-top : goal.overflow_sub-top
 overflow_sub-top c = omega (arith, c.loop-top-test.true)
 
-pub offset_bounds-runs-top : goal.offset_bounds-runs-top
-offset_bounds-runs-top c = omega (arith, bounds-runs-top c)
-
 -- it stands within the array
 pub bounds-runs-top : goal.bounds-runs-top
 bounds-runs-top c = omega (arith, few c.requires.contour c.loop-top.invariant c.loop-top-test.true)
+
+pub offset_bounds-runs-top : goal.offset_bounds-runs-top
+offset_bounds-runs-top c = omega (arith, bounds-runs-top c)
 
 pub overflow_add-tried : goal.overflow_add-tried
 overflow_add-tried c = omega (arith, counts-small c.requires.contour c.loop-top.invariant)
@@ -112,16 +112,16 @@ overflow_add-place c =
     ) in
     omega (arith, small)
 
-pub loop-top-smaller-then-passes_run : goal.loop-top-smaller-then-passes_run
-loop-top-smaller-then-passes_run c =
-    omega (arith, (counts-small c.requires.contour (loop-top-preserved-then-passes_run c)).2)
-
 pub loop-top-preserved-then-passes_run : goal.loop-top-preserved-then-passes_run
 loop-top-preserved-then-passes_run c =
     let passed : (let a = c.args in
     passes (layer_of a.size a.bitmap.now) c.loop-top.table a.t c.loop-top.at (top_run c.loop-top.runs c.loop-top.top).edges ≡ true) =
     sym c.passes_run.ensures ∙ c.if-passes_run.true in
     pending-passed c.requires.contour c.loop-top.invariant c.loop-top-test.true passed c.remove_inner.ensures
+
+pub loop-top-smaller-then-passes_run : goal.loop-top-smaller-then-passes_run
+loop-top-smaller-then-passes_run c =
+    omega (arith, (counts-small c.requires.contour (loop-top-preserved-then-passes_run c)).2)
 
 pub overflow_sub-run : goal.overflow_sub-run
 overflow_sub-run c =
@@ -162,10 +162,6 @@ bounds-runs-top-else-passes_run-2 c = omega (arith, fits c)
 pub overflow_add-top : goal.overflow_add-top
 overflow_add-top c = omega (arith, fits c)
 
-pub loop-top-smaller : goal.loop-top-smaller
-loop-top-smaller c =
-    omega (arith, (counts-small c.requires.contour (loop-top-preserved c)).2)
-
 pub loop-top-preserved : goal.loop-top-preserved
 loop-top-preserved c =
     let failed : (let a = c.args in
@@ -176,6 +172,10 @@ loop-top-preserved c =
     pending-split c.requires.contour c.loop-top.invariant c.loop-top-test.true failed
     (omega (arith, fits c, sized)) c.half_of-h.ensures c.stick_at-else-passes_run.ensures c.run_to-first_part.ensures
     c.run_to-second_part.ensures
+
+pub loop-top-smaller : goal.loop-top-smaller
+loop-top-smaller c =
+    omega (arith, (counts-small c.requires.contour (loop-top-preserved c)).2)
 
 pub shape_of-table : goal.shape_of-table
 shape_of-table c = c.loop-top.invariant.same_length
