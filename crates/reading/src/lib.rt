@@ -1,4 +1,6 @@
 // A sheet read against a bitmap: question 7 of the layer that a well-formed sheet describes, and the table filled from its bytes.
+#![tactic(auto)]
+
 mod fill;
 mod holding;
 mod read;

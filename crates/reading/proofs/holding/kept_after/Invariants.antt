@@ -1,0 +1,11 @@
+use Prim.Native.Nat.{◌-◌}
+use Rattle.grid.specs.Layer.{layer_of}
+use Rattle.grid.specs.Edges.{edge_count}
+use Rattle.reading.proofs.Asking.{Seeking}
+use Rattle.reading.proofs.holding.kept_after.Given as goal
+
+abbrev pub invariant-loop-size : goal.invariant-loop-size
+invariant-loop-size l = Seeking (layer_of l.size l.bitmap) l.sheet l.first l.initial.at l.at l.gap
+
+abbrev pub decreases-loop-size : goal.decreases-loop-size
+decreases-loop-size l = edge_count l.size - l.gap

@@ -1,0 +1,13 @@
+-- `entry_count` meets its contract.
+use native.Mathlib.Omega.{arith}
+use Rattle.grid.specs.Layer.{size_of}
+use Rattle.slicing.proofs.Bounds.{small_of, edges_few}
+use Rattle.slicing.proofs.steps.entry_count.Goals as goal
+
+pub edge_count-requires : goal.edge_count-requires
+edge_count-requires c = (small_of (size_of c.args.w c.args.h) c.requires).sized
+
+pub returns : goal.returns
+returns c =
+    let size = size_of c.args.w c.args.h in
+    (c.edge_count.ensures, omega (arith, c.edge_count.ensures, edges_few size (small_of size c.requires)))

@@ -1,0 +1,45 @@
+-- `slice_in` meets its contract. `refined`, `told` and `traced` are the places after `refine`, where the answer of Trace is known, and after
+-- Trace; the buffers that a call leaves are its `last`.
+use mathlib.Core.Path.{ap, ◌∙◌}
+use mathlib.Core.List.{List}
+use Prim.Native.Nat.{ℕ}
+use native.Mathlib.Omega.{arith}
+use Rattle.grid.specs.Layer.{layer_of, size_of}
+use Rattle.trace.specs.Trace.{trace_of}
+use Rattle.sheet.specs.Written.{sheet_of}
+use Rattle.slicing.specs.Slice.{stored}
+use Rattle.slicing.proofs.Answers.{traced-done, bytes-done, bytes-refused}
+use Rattle.slicing.proofs.Accepting.{after-done}
+use Rattle.slicing.proofs.steps.slice_in.Goals as goal
+
+pub write-requires : goal.write-requires
+write-requires c =
+    let a = c.args in
+    let L = layer_of (size_of a.w a.h) a.bitmap.now in
+    let done =
+    traced-done L c.trace-traced.new.1.1.1.0 c.trace-traced.result (trace_of L a.table.now) c.trace-traced.ensures
+    c.in-Done.is in
+    let after =
+    after-done L a.table.now c.trace-traced.new.1.1.1.0 c.refine.new.1.1.1.0 done c.refine.ensures
+    c.requires.h_value in
+    record { table_value = after.0; table_in_bounds = omega (arith, after.1, c.requires.answer_limit_in_bounds) }
+
+pub returns-in-Done : goal.returns-in-Done
+returns-in-Done c =
+    let a = c.args in
+    let L = layer_of (size_of a.w a.h) a.bitmap.now in
+    c.write.ensures
+    ∙ ap (λ (t : List ℕ). stored a.output.now (sheet_of L t)) c.refine.ensures
+    ∙ ap (stored a.output.now)
+    (bytes-done L c.trace-traced.new.1.1.1.0 c.trace-traced.result (trace_of L a.table.now) c.trace-traced.ensures
+    c.in-Done.is)
+
+pub returns-in-Refused : goal.returns-in-Refused
+returns-in-Refused c =
+    let a = c.args in
+    let refused = c.traced-1.given in
+    let L = layer_of (size_of a.w a.h) a.bitmap.now in
+    c.refuse.ensures
+    ∙ ap (stored a.output.now)
+    (bytes-refused L c.trace-traced.new.1.1.1.0 c.trace-traced.result (trace_of L a.table.now) c.trace-traced.ensures
+    refused.0.0 refused.0.1.0 refused.1)

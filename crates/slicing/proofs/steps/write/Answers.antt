@@ -1,0 +1,18 @@
+-- `write` meets its contract: nothing is refused there.
+use Rattle.grid.specs.Layer.{layer_of, size_of}
+use Rattle.slicing.proofs.Answers.{written_is, written-never}
+use Rattle.slicing.proofs.steps.write.Goals as goal
+
+pub returns-in-Done : goal.returns-in-Done
+returns-in-Done c =
+    let a = c.args in
+    let told = c.written-1.given in
+    written_is (layer_of (size_of a.w a.h) a.bitmap.now) a.table.now a.output.now _
+    c.write_sheet-written.result c.requires.table_value c.requires.table_in_bounds c.write_sheet-written.ensures told.0.0 told.1
+
+pub returns-in-Refused : goal.returns-in-Refused
+returns-in-Refused c =
+    let a = c.args in
+    let told = c.enum_told-1.given in
+    absurd (written-never (layer_of (size_of a.w a.h) a.bitmap.now) a.table.now a.output.now _
+    c.write_sheet-written.result c.requires.table_value c.requires.table_in_bounds c.write_sheet-written.ensures told.0.0 told.0.1.0 told.1)
