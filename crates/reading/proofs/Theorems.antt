@@ -18,7 +18,6 @@ use Rattle.held.specs.Questions.{Accepted}
 use Rattle.formed.specs.Expected.{sheet_answer}
 use Rattle.reading.specs.Reading.{described, Outcome, read_of, outcome}
 use Rattle.reading.specs.declared.read.SheetRead.{SheetRead}
-use Rattle.reading.specs.declared.read.SheetRead.TheVariants as SheetRead
 use Rattle.reading.specs.Places.{answered_by}
 use Rattle.reading.proofs.Described.{described-length}
 use Rattle.reading.proofs.Vertices.{described-entries}

@@ -13,7 +13,6 @@ use Rattle.arith.proofs.Booleans.{both-sides}
 use Rattle.grid.specs.Layer.{Layer}
 use Rattle.grid.specs.Edges.{edge_count}
 use Rattle.grid.specs.Questions.{first_no}
-use Rattle.grid.specs.declared.question.Refusal.TheVariants as Refusal
 use Rattle.grid.specs.declared.question.Answer.{Answer}
 use Rattle.grid.specs.declared.question.Answer.TheVariants.{Yes, No}
 use Rattle.grid.proofs.Answers.{number-within, append-yes}

@@ -18,7 +18,6 @@ use Rattle.grid.proofs.Answers.{number-within}
 use Rattle.held.specs.Questions.{held_questions}
 use Rattle.trace.specs.Trace as Trace
 use Rattle.trace.specs.declared.tracing.Traced.{Traced}
-use Rattle.trace.specs.declared.tracing.Traced.TheVariants as Traced
 use Rattle.smooth.specs.Call as Smooth
 use Rattle.smooth.specs.declared.smoothing.Smoothing.{Smoothing}
 use Rattle.smooth.proofs.Held.{smooth-leaves}
@@ -28,7 +27,6 @@ use Rattle.simplify.proofs.Outcomes.{simplify-leaves}
 use Rattle.sheet.specs.Written as Sheet
 use Rattle.sheet.specs.Written.{sheet_of}
 use Rattle.sheet.specs.declared.write.Written.{Written}
-use Rattle.sheet.specs.declared.write.Written.TheVariants as Written
 use Rattle.sheet.proofs.Answered.{written-done}
 use Rattle.slicing.specs.Slice.{size_letter, command_length, whole_command, number_at, sides_fit, refused_bytes, pass_limit, tolerance, refined, bytes_after, layer_bytes, slice_of, stored, outcome}
 

@@ -28,7 +28,7 @@ cross_of-area-requires c = record { near = c.loop-here.invariant.summed.last_nea
 
 pub overflow_add-area : goal.overflow_add-area
 overflow_add-area c =
-    let small : nat_abs c.loop-here.area ≤ 2 ^ 58 =
+    let small : nat_abs (to_z w64 c.loop-here.area-bits) ≤ 2 ^ 58 =
     summed-small c.requires c.loop-here.invariant in
     let so_far = small in in-range (search sized depth 9) tt
 
@@ -42,11 +42,11 @@ loop-here-smaller c =
 pub loop-here-preserved : goal.loop-here-preserved
 unfolding kept_at offset_at
 loop-here-preserved c =
-    let small : nat_abs c.loop-here.area ≤ 2 ^ 58 =
+    let small : nat_abs (to_z w64 c.loop-here.area-bits) ≤ 2 ^ 58 =
     summed-small c.requires c.loop-here.invariant in
     let turned : (let a = c.args in
-    Turned (layer_of a.size a.bitmap.now) a.table.now c.loop-here.e c.loop-here.area c.loop-here.trail
-    c.if-is_kept.area c.if-is_kept.trail) =
+    Turned (layer_of a.size a.bitmap.now) a.table.now c.loop-here.e (to_z w64 c.loop-here.area-bits) c.loop-here.trail
+    (to_z w64 c.if-is_kept.area-bits) c.if-is_kept.trail) =
     let so_far = small in
     let kept = sym (c.is_kept.ensures ∙ ap is_kept c.entry_at.ensures) in
     elim c.if-is_kept.branch [
@@ -65,11 +65,11 @@ loop-here-preserved c =
 pub cross_of-requires : goal.cross_of-requires
 unfolding kept_at offset_at
 cross_of-requires c =
-    let small : nat_abs c.loop-here.area ≤ 2 ^ 58 =
+    let small : nat_abs (to_z w64 c.loop-here.area-bits) ≤ 2 ^ 58 =
     summed-small c.requires c.loop-here.invariant in
     let turned : (let a = c.args in
-    Turned (layer_of a.size a.bitmap.now) a.table.now c.loop-here.e c.loop-here.area c.loop-here.trail
-    c.if-is_kept.area c.if-is_kept.trail) =
+    Turned (layer_of a.size a.bitmap.now) a.table.now c.loop-here.e (to_z w64 c.loop-here.area-bits) c.loop-here.trail
+    (to_z w64 c.if-is_kept.area-bits) c.if-is_kept.trail) =
     let so_far = small in
     let kept = sym (c.is_kept.ensures ∙ ap is_kept c.entry_at.ensures) in
     elim c.if-is_kept.branch [
@@ -83,7 +83,7 @@ cross_of-requires c =
       | goal.else-is_kept w ↦ record { kept = λ k. absurd (true≢false (sym k ∙ kept ∙ w.if-is_kept.false)); over = λ k. (ap (to_z w64) w.area-is, w.trail-is) }
     ] in
     let closing : (let a = c.args in
-    Closing (layer_of a.size a.bitmap.now) a.table.now a.first c.if-is_kept.area c.if-is_kept.trail) =
+    Closing (layer_of a.size a.bitmap.now) a.table.now a.first (to_z w64 c.if-is_kept.area-bits) c.if-is_kept.trail) =
     summed-end c.requires c.loop-here.invariant c.next_stick-e.ensures turned
     (sym c.same_edge.ensures ∙ c.if-same_edge.true) in
     record { near = closing.last_near; near_2 = closing.begin_near }
@@ -94,11 +94,11 @@ overflow_add-result c =
     let given-at : (let a = c.args in
     HeldStick (layer_of a.size a.bitmap.now) a.table.now a.first) =
     c.requires in
-    let small : nat_abs c.loop-here.area ≤ 2 ^ 58 =
+    let small : nat_abs (to_z w64 c.loop-here.area-bits) ≤ 2 ^ 58 =
     summed-small c.requires c.loop-here.invariant in
     let turned : (let a = c.args in
-    Turned (layer_of a.size a.bitmap.now) a.table.now c.loop-here.e c.loop-here.area c.loop-here.trail
-    c.if-is_kept.area c.if-is_kept.trail) =
+    Turned (layer_of a.size a.bitmap.now) a.table.now c.loop-here.e (to_z w64 c.loop-here.area-bits) c.loop-here.trail
+    (to_z w64 c.if-is_kept.area-bits) c.if-is_kept.trail) =
     let so_far = small in
     let kept = sym (c.is_kept.ensures ∙ ap is_kept c.entry_at.ensures) in
     elim c.if-is_kept.branch [
@@ -112,7 +112,7 @@ overflow_add-result c =
       | goal.else-is_kept w ↦ record { kept = λ k. absurd (true≢false (sym k ∙ kept ∙ w.if-is_kept.false)); over = λ k. (ap (to_z w64) w.area-is, w.trail-is) }
     ] in
     let closing : (let a = c.args in
-    Closing (layer_of a.size a.bitmap.now) a.table.now a.first c.if-is_kept.area c.if-is_kept.trail) =
+    Closing (layer_of a.size a.bitmap.now) a.table.now a.first (to_z w64 c.if-is_kept.area-bits) c.if-is_kept.trail) =
     summed-end c.requires c.loop-here.invariant c.next_stick-e.ensures turned
     (sym c.same_edge.ensures ∙ c.if-same_edge.true) in
     let so_far = closing-small given-at closing in
@@ -124,11 +124,11 @@ returns c =
     let given-at : (let a = c.args in
     HeldStick (layer_of a.size a.bitmap.now) a.table.now a.first) =
     c.requires in
-    let small : nat_abs c.loop-here.area ≤ 2 ^ 58 =
+    let small : nat_abs (to_z w64 c.loop-here.area-bits) ≤ 2 ^ 58 =
     summed-small c.requires c.loop-here.invariant in
     let turned : (let a = c.args in
-    Turned (layer_of a.size a.bitmap.now) a.table.now c.loop-here.e c.loop-here.area c.loop-here.trail
-    c.if-is_kept.area c.if-is_kept.trail) =
+    Turned (layer_of a.size a.bitmap.now) a.table.now c.loop-here.e (to_z w64 c.loop-here.area-bits) c.loop-here.trail
+    (to_z w64 c.if-is_kept.area-bits) c.if-is_kept.trail) =
     let so_far = small in
     let kept = sym (c.is_kept.ensures ∙ ap is_kept c.entry_at.ensures) in
     elim c.if-is_kept.branch [
@@ -142,7 +142,7 @@ returns c =
       | goal.else-is_kept w ↦ record { kept = λ k. absurd (true≢false (sym k ∙ kept ∙ w.if-is_kept.false)); over = λ k. (ap (to_z w64) w.area-is, w.trail-is) }
     ] in
     let closing : (let a = c.args in
-    Closing (layer_of a.size a.bitmap.now) a.table.now a.first c.if-is_kept.area c.if-is_kept.trail) =
+    Closing (layer_of a.size a.bitmap.now) a.table.now a.first (to_z w64 c.if-is_kept.area-bits) c.if-is_kept.trail) =
     summed-end c.requires c.loop-here.invariant c.next_stick-e.ensures turned
     (sym c.same_edge.ensures ∙ c.if-same_edge.true) in
     let so_far = closing-small given-at closing in

@@ -3,7 +3,6 @@
 use mathlib.Core.Path.{sym, ◌∙◌}
 use native.Mathlib.Omega.{arith}
 use Rattle.grid.specs.Layer.{layer_of}
-use Rattle.contour.specs.Cursors.{left}
 use Rattle.contour.proofs.Cursors.{here-stick, fewer}
 use Rattle.reading.proofs.Storing.{none-exact, filling-start, filling-room, filling-turn, filling-end}
 use Rattle.reading.proofs.fill.store_contours.Goals as goal
@@ -13,7 +12,7 @@ loop-at-init c = filling-start c.requires.table_value c.first_contour-at.ensures
 
 pub overflow_add-start : goal.overflow_add-start
 overflow_add-start c =
-    omega (arith, filling-room c.loop-at.invariant c.requires.first_set c.loop-at-test.true c.requires.sheet_value, c.well-formed.1.1.1.0.0)
+    omega (arith, filling-room c.loop-at.invariant c.requires.first_set c.loop-at-test.true c.requires.sheet_value)
 
 pub store_vertices-place-requires : goal.store_vertices-place-requires
 store_vertices-place-requires c =

@@ -3,7 +3,6 @@
 use mathlib.Core.Path.{sym, ◌∙◌}
 use native.Mathlib.Omega.{arith}
 use borrow.Author.Tests.{not-true, not-false}
-use Rattle.contour.specs.Cursors.{left}
 use Rattle.contour.proofs.Cursors.{fewer}
 use Rattle.held.proofs.Asking.{ask-no, ask-end}
 use Rattle.reading.proofs.Asking.{asked-start, asked-stand, asked-next}
@@ -15,7 +14,7 @@ loop-at-init c = asked-start c.first_contour-at.ensures
 pub overflow_add-start : goal.overflow_add-start
 overflow_add-start c =
     let stand = asked-stand c.loop-at.invariant c.requires.first_set c.loop-at-test.true c.requires.sheet_value in
-    omega (arith, stand.room, c.well-formed.1.1.0.0)
+    omega (arith, stand.room)
 
 pub held_contour-checked-requires : goal.held_contour-checked-requires
 held_contour-checked-requires c =

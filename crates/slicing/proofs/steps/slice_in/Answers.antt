@@ -17,10 +17,10 @@ write-requires c =
     let a = c.args in
     let L = layer_of (size_of a.w a.h) a.bitmap.now in
     let done =
-    traced-done L c.trace-traced.new.1.1.1.0 c.trace-traced.result (trace_of L a.table.now) c.trace-traced.ensures
+    traced-done L c.trace-traced.new.table c.trace-traced.result (trace_of L a.table.now) c.trace-traced.ensures
     c.in-Done.is in
     let after =
-    after-done L a.table.now c.trace-traced.new.1.1.1.0 c.refine.new.1.1.1.0 done c.refine.ensures
+    after-done L a.table.now c.trace-traced.new.table c.refine.new.table done c.refine.ensures
     c.requires.h_value in
     record { table_value = after.0; table_in_bounds = omega (arith, after.1, c.requires.answer_limit_in_bounds) }
 
@@ -31,15 +31,14 @@ returns-in-Done c =
     c.write.ensures
     ∙ ap (λ (t : List ℕ). stored a.output.now (sheet_of L t)) c.refine.ensures
     ∙ ap (stored a.output.now)
-    (bytes-done L c.trace-traced.new.1.1.1.0 c.trace-traced.result (trace_of L a.table.now) c.trace-traced.ensures
+    (bytes-done L c.trace-traced.new.table c.trace-traced.result (trace_of L a.table.now) c.trace-traced.ensures
     c.in-Done.is)
 
 pub returns-in-Refused : goal.returns-in-Refused
 returns-in-Refused c =
     let a = c.args in
-    let refused = c.traced-1.given in
     let L = layer_of (size_of a.w a.h) a.bitmap.now in
     c.refuse.ensures
     ∙ ap (stored a.output.now)
-    (bytes-refused L c.trace-traced.new.1.1.1.0 c.trace-traced.result (trace_of L a.table.now) c.trace-traced.ensures
-    refused.0.0 refused.0.1.0 refused.1)
+    (bytes-refused L c.trace-traced.new.table c.trace-traced.result (trace_of L a.table.now) c.trace-traced.ensures
+    c.in-Refused.question c.in-Refused.field-1 c.in-Refused.is)
