@@ -1,7 +1,7 @@
 -- The one theorem that the project is for. Each call takes a layer that passes questions 1 to 7 to such a layer, whether it is done,
 -- refused or stopped partway (a lemma in each call's crate, Trace's in TraceHeld); and such a layer is faithful (crate faithful, Faithful).
 use mathlib.Core.Path.{◌≡◌}
-use mathlib.Core.Bool.{true, false, not, true≢false}
+use mathlib.Core.Bool.{false, not, true≢false}
 use mathlib.Core.List.{List, [], ◌∷◌}
 use Prim.Native.Nat.{ℕ}
 use borrow.Author.Tests.{not-true}

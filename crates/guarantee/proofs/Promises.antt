@@ -6,10 +6,8 @@ use Prim.Native.Nat.{ℕ}
 use Rattle.grid.specs.Layer.{Layer}
 use Rattle.trace.specs.Trace as Trace
 use Rattle.trace.specs.declared.tracing.Traced.{Traced}
-use Rattle.trace.specs.declared.tracing.Traced.TheVariants as Traced
 use Rattle.reading.specs.Reading as Reading
 use Rattle.reading.specs.declared.read.SheetRead.{SheetRead}
-use Rattle.reading.specs.declared.read.SheetRead.TheVariants as SheetRead
 
 module _ (L : Layer) (t u : List ℕ) where
   pub trace-accepts : {r : Traced} → Trace.outcome r u ≡ Trace.trace_of L t → r ≡ Traced.Done → (Trace.trace_of L t).refusal ≡ 0

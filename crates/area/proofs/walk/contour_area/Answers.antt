@@ -53,11 +53,11 @@ loop-here-preserved c =
       | goal.then-is_kept w ↦ record {
         kept =
             λ k.
-            passed-kept w.vertex_at-here.ensures.value w.vertex_at-here.ensures.near w.cross_of-arg-1.ensures.0 w.cross_of-arg-1.ensures.1
-            (ap (to_z w64) w.trail_to-trail ∙ exact (search sized depth 9) tt) (w.area-is ∙ w.cross_of-area.ensures);
+            passed-kept w.vertex_at-here.ensures.value w.vertex_at-here.ensures.near w.cross_of-area.ensures.value w.cross_of-area.ensures.result_bound
+            (w.area-is ∙ exact (search sized depth 9) tt) (w.trail-is ∙ w.trail_to-trail.ensures);
         over = λ k. absurd (true≢false (sym (kept ∙ w.if-is_kept.true) ∙ k));
       }
-      | goal.else-is_kept w ↦ record { kept = λ k. absurd (true≢false (sym k ∙ kept ∙ w.if-is_kept.false)); over = λ k. (ap (to_z w64) w.area-is, w.trail-is) }
+      | goal.else-is_kept w ↦ record { kept = λ k. absurd (true≢false (sym k ∙ kept ∙ w.if-is_kept.false)); over = λ k. (w.area-is, w.trail-is) }
     ] in
     summed_turn c.requires c.loop-here.invariant c.next_stick-e.ensures turned
     (sym c.same_edge.ensures ∙ c.if-same_edge.false)
@@ -76,11 +76,11 @@ cross_of-requires c =
       | goal.then-is_kept w ↦ record {
         kept =
             λ k.
-            passed-kept w.vertex_at-here.ensures.value w.vertex_at-here.ensures.near w.cross_of-arg-1.ensures.0 w.cross_of-arg-1.ensures.1
-            (ap (to_z w64) w.trail_to-trail ∙ exact (search sized depth 9) tt) (w.area-is ∙ w.cross_of-area.ensures);
+            passed-kept w.vertex_at-here.ensures.value w.vertex_at-here.ensures.near w.cross_of-area.ensures.value w.cross_of-area.ensures.result_bound
+            (w.area-is ∙ exact (search sized depth 9) tt) (w.trail-is ∙ w.trail_to-trail.ensures);
         over = λ k. absurd (true≢false (sym (kept ∙ w.if-is_kept.true) ∙ k));
       }
-      | goal.else-is_kept w ↦ record { kept = λ k. absurd (true≢false (sym k ∙ kept ∙ w.if-is_kept.false)); over = λ k. (ap (to_z w64) w.area-is, w.trail-is) }
+      | goal.else-is_kept w ↦ record { kept = λ k. absurd (true≢false (sym k ∙ kept ∙ w.if-is_kept.false)); over = λ k. (w.area-is, w.trail-is) }
     ] in
     let closing : (let a = c.args in
     Closing (layer_of a.size a.bitmap.now) a.table.now a.first (to_z w64 c.if-is_kept.area-bits) c.if-is_kept.trail) =
@@ -105,11 +105,11 @@ overflow_add-result c =
       | goal.then-is_kept w ↦ record {
         kept =
             λ k.
-            passed-kept w.vertex_at-here.ensures.value w.vertex_at-here.ensures.near w.cross_of-arg-1.ensures.0 w.cross_of-arg-1.ensures.1
-            (ap (to_z w64) w.trail_to-trail ∙ exact (search sized depth 9) tt) (w.area-is ∙ w.cross_of-area.ensures);
+            passed-kept w.vertex_at-here.ensures.value w.vertex_at-here.ensures.near w.cross_of-area.ensures.value w.cross_of-area.ensures.result_bound
+            (w.area-is ∙ exact (search sized depth 9) tt) (w.trail-is ∙ w.trail_to-trail.ensures);
         over = λ k. absurd (true≢false (sym (kept ∙ w.if-is_kept.true) ∙ k));
       }
-      | goal.else-is_kept w ↦ record { kept = λ k. absurd (true≢false (sym k ∙ kept ∙ w.if-is_kept.false)); over = λ k. (ap (to_z w64) w.area-is, w.trail-is) }
+      | goal.else-is_kept w ↦ record { kept = λ k. absurd (true≢false (sym k ∙ kept ∙ w.if-is_kept.false)); over = λ k. (w.area-is, w.trail-is) }
     ] in
     let closing : (let a = c.args in
     Closing (layer_of a.size a.bitmap.now) a.table.now a.first (to_z w64 c.if-is_kept.area-bits) c.if-is_kept.trail) =
@@ -135,11 +135,11 @@ returns c =
       | goal.then-is_kept w ↦ record {
         kept =
             λ k.
-            passed-kept w.vertex_at-here.ensures.value w.vertex_at-here.ensures.near w.cross_of-arg-1.ensures.0 w.cross_of-arg-1.ensures.1
-            (ap (to_z w64) w.trail_to-trail ∙ exact (search sized depth 9) tt) (w.area-is ∙ w.cross_of-area.ensures);
+            passed-kept w.vertex_at-here.ensures.value w.vertex_at-here.ensures.near w.cross_of-area.ensures.value w.cross_of-area.ensures.result_bound
+            (w.area-is ∙ exact (search sized depth 9) tt) (w.trail-is ∙ w.trail_to-trail.ensures);
         over = λ k. absurd (true≢false (sym (kept ∙ w.if-is_kept.true) ∙ k));
       }
-      | goal.else-is_kept w ↦ record { kept = λ k. absurd (true≢false (sym k ∙ kept ∙ w.if-is_kept.false)); over = λ k. (ap (to_z w64) w.area-is, w.trail-is) }
+      | goal.else-is_kept w ↦ record { kept = λ k. absurd (true≢false (sym k ∙ kept ∙ w.if-is_kept.false)); over = λ k. (w.area-is, w.trail-is) }
     ] in
     let closing : (let a = c.args in
     Closing (layer_of a.size a.bitmap.now) a.table.now a.first (to_z w64 c.if-is_kept.area-bits) c.if-is_kept.trail) =
