@@ -1,4 +1,4 @@
-/* Puzhenim: contours of a sampled layer, proved correct. Link with libpuzhenim.a (x86-64).
+/* Puzhenim: contours of a sampled layer, proved correct. Link with libpuzhenim.a (x86-64-v2, Linux).
  *
  * Every function returns 0 if the call is done, else the number of the question that was answered no (1 to 16, below), and writes four
  * figures: the place that goes with a refusal, 0 if there is none, then the call's own, 0 for the rest. All figures of a refused call but the

@@ -1,4 +1,4 @@
-//! Tells the linker where the proved library is: the repository's target/staticlib, or the folder that PUZHENIM_LIB names.
+//! Tells the linker where the proved library is: crates/puzhenim/out of the repository, or the folder that PUZHENIM_LIB names.
 
 use std::env;
 use std::path::{Path, PathBuf};
@@ -6,7 +6,7 @@ use std::path::{Path, PathBuf};
 fn folder() -> PathBuf {
     match env::var_os("PUZHENIM_LIB") {
         Some(named) => PathBuf::from(named),
-        None => Path::new(env!("CARGO_MANIFEST_DIR")).join("../target/staticlib"),
+        None => Path::new(env!("CARGO_MANIFEST_DIR")).join("../crates/puzhenim/out"),
     }
 }
 
@@ -16,7 +16,7 @@ fn main() {
     println!("cargo:rerun-if-env-changed=PUZHENIM_LIB");
     println!("cargo:rerun-if-changed={}", archive.display());
     if !archive.exists() {
-        panic!("there is no {}: make it by `rt staticlib puzhenim`, or name its folder in PUZHENIM_LIB", archive.display());
+        panic!("there is no {}: make it by `rt lib` in crates/puzhenim, or name its folder in PUZHENIM_LIB", archive.display());
     }
     println!("cargo:rustc-link-search=native={}", folder.display());
     println!("cargo:rustc-link-lib=static=puzhenim");

@@ -1,7 +1,7 @@
 // Answers a script through the exported library, as the reference answers it, so that the two can be compared on any script. Besides, it
 // checks of each call that a slice of figures that is too short is refused by 14 and touches nothing, that figures past the fourth stay, and
 // that nothing outside the buffers it is lent is written.
-// Build: rustc -O --edition 2021 -L target/staticlib -l static=puzhenim -o library tests/library/main.rs
+// Build: rustc -O --edition 2021 -L crates/puzhenim/out -l static=puzhenim -o library tests/library/main.rs
 
 #[allow(dead_code)]
 #[path = "../reference/script.rs"]
