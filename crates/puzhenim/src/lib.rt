@@ -142,7 +142,7 @@ pub extern "C" fn pz_plan(
     points: &mut [f64],
     figures: &mut [u64],
 ) -> u32
-    ensures { record { number = result; buffers = record { items = items.exit.now; points = points.new }; figures = figures.new } ≡ plan_face (layer_of (size_of w h) bitmap.now) table.now (record { items = items.entry.now; points = points.old }) figures.old }
+    ensures { record { number = result; buffers = record { items = items.new; points = points.new }; figures = figures.new } ≡ plan_face (layer_of (size_of w h) bitmap.now) table.now (record { items = items.old; points = points.old }) figures.old }
 {
     if figures.len() < 4 {
         return SHORT_OUTPUT;
@@ -161,7 +161,7 @@ pub extern "C" fn pz_areas(
     sums: &mut [i64],
     figures: &mut [u64],
 ) -> u32
-    ensures { record { number = result; buffers = record { areas = areas.exit.now; sums = sums.new }; figures = figures.new } ≡ measure_face (layer_of (size_of w h) bitmap.now) table.now (record { areas = areas.entry.now; sums = sums.old }) figures.old }
+    ensures { record { number = result; buffers = record { areas = areas.new; sums = sums.new }; figures = figures.new } ≡ measure_face (layer_of (size_of w h) bitmap.now) table.now (record { areas = areas.old; sums = sums.old }) figures.old }
 {
     if figures.len() < 4 {
         return SHORT_OUTPUT;

@@ -1,4 +1,6 @@
 // What the exported functions report: made from the answer of each call (answers), and stored (report).
+#![tactic(auto)]
+
 mod answers;
 mod report;
 
