@@ -1,7 +1,7 @@
 -- The guarantee over the exported functions: each leaves the table as found or as its call leaves it, and either way a layer that passes
 -- questions 1 to 7 stays one, and pins hold.
 use mathlib.Core.Path.{◌≡◌}
-use mathlib.Core.Bool.{true, false, true≢false, not}
+use mathlib.Core.Bool.{false, true≢false, not}
 use mathlib.Core.List.{List, [], ◌∷◌, foldl}
 use Prim.Native.Nat.{ℕ}
 use native.Mathlib.Omega.{arith}

@@ -1,5 +1,7 @@
 // The exported library: a C function for each call. It returns the number of the refusal, 0 if the call is done, and writes four figures: the
 // place, then the call's own in their order, 0 for the rest. A slice is a pointer and a length in elements. include/puzhenim.h declares them.
+#![tactic(auto)]
+
 ghost use Rattle.std.specs.Prelude.{◌≡◌, length};
 ghost use Rattle.grid.specs.Layer.{layer_of, size_of};
 ghost use Rattle.puzhenim.specs.Face.{trace_face, counts_face, smooth_face, simplify_face, roll_face, write_face, read_face, plan_face, measure_face, sample_face};

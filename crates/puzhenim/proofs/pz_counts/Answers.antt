@@ -1,0 +1,10 @@
+-- `pz_counts` meets its contract.
+use Rattle.puzhenim.proofs.Faces.{short-face, stored-face}
+use Rattle.puzhenim.proofs.pz_counts.Goals as goal
+
+pub returns-then-figures-lt4 : goal.returns-then-figures-lt4
+returns-then-figures-lt4 c = short-face _ _ _ c.if-figures-lt4.true
+
+pub returns : goal.returns
+returns c = rw (← c.counts-answer.ensures)
+    (stored-face _ c.put_report.ensures c.counted_report.ensures)

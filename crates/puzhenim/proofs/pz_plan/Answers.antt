@@ -1,0 +1,11 @@
+-- `pz_plan` meets its contract.
+use Rattle.puzhenim.proofs.Faces.{short-face, stored-face}
+use Rattle.puzhenim.proofs.pz_plan.Goals as goal
+
+pub returns-then-figures-lt4 : goal.returns-then-figures-lt4
+returns-then-figures-lt4 c = short-face _ _ _ c.if-figures-lt4.true
+
+pub returns : goal.returns
+returns c =
+    let planned = c.plan-answer.ensures in
+    rw (← planned) (stored-face _ c.put_report.ensures (c.planned_report.ensures _))
