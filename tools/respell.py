@@ -17,7 +17,7 @@ import sys
 DECLARED = re.compile(r"^( *)((?:(?:abbrev|unfoldable|pub|irrelevant) +)*)([^\s(){}.;,@\"«»:`]+)((?: [({].*)?) :(?!:)")
 HEAD = re.compile(r"^(?:pub |abbrev |unfoldable )*(record|data) ")
 WORD = re.compile(r"(?<![^\s(){}.;,@\"«»:`|\[\]])[^\s(){}.;,@\"«»:`|\[\]]+")
-HUMP = re.compile(r"^[a-z].*?[a-z0-9][A-Z]")
+HUMP = re.compile(r"^(?=[a-z]).*?[a-z0-9][A-Z]")
 USE = re.compile(r"use ([\w.·-]+)\.\{([^}]*)\}")
 
 

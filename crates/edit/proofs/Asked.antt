@@ -81,7 +81,7 @@ named-at s {L} {t} accepted kept =
 pub editable : {L : Layer} {t : List ℕ} {s : Named} → NamedKept L t s → {e : Edge} → e ≡ edge_named s → Editable L t e
 editable {L} {t} {s} k is = subst (Editable L t) (sym is) (named-at s k.accepted k.kept)
 
--- as `carries_kept_lem` answers it
+-- as `carries_kept` answers it
 module _ (L : Layer) (t : List ℕ) (s : Named) {b : Bool} (is : b ≡ names_kept L.size t s) where
   pub not-kept : not b ≡ true → carries_kept L t s ≡ false
   not-kept h = sym (names-kept L t s) ∙ no_of is h

@@ -7,7 +7,6 @@ use Rattle.grid.specs.Edges.{in_grid}
 use Rattle.grid.specs.Questions.{first_no}
 use Rattle.grid.specs.declared.edge.Edge.{Edge}
 use Rattle.grid.specs.declared.question.Refusal.{Refusal}
-use Rattle.grid.specs.declared.question.Refusal.TheVariants as Refusal
 use Rattle.grid.specs.declared.question.Answer.{Answer}
 use Rattle.grid.specs.declared.question.Answer.TheVariants.{Yes, No}
 use Rattle.contour.specs.Contours.{contour_of}

@@ -40,7 +40,7 @@ use Rattle.drawn.proofs.Neighbours.{owner-previous, owner-next, ends_at, crossed
 use Rattle.drawn.proofs.Pieces.{first-end, vertex-inside}
 use Rattle.held.specs.Questions.{Accepted}
 use Rattle.held.proofs.HeldFacts.{HeldFacts, held_of}
-use Rattle.polygon.specs.Polygon.{xAt, yAt, added, taken, AllOffsets}
+use Rattle.polygon.specs.Polygon.{x_at, y_at, added, taken, AllOffsets}
 
 -- what some drawn edges add to twice the area, and take from it
 abbrev pub added_along : Layer → List ℕ → List Ends → ℕ
@@ -212,10 +212,10 @@ module _ (L : Layer) (t : List ℕ) (sound : Sound L) (vertices : Vertices L t) 
         offset-within M (share x) (spot L t x).d (base x) (along_of x (spot L t x)) some (is x stick) w.after w.before
 
     abbrev X : Edge → ℕ
-    X x = xAt (256 * M) o x
+    X x = x_at (256 * M) o x
 
     abbrev Y : Edge → ℕ
-    Y x = yAt (256 * M) o x
+    Y x = y_at (256 * M) o x
 
     -- the vertex on x is the mean of those of p and q
     record Mean (x p q : Edge) : Type 0 where

@@ -6,7 +6,6 @@ use Prim.Native.Nat.{ℕ, ◌≤◌, ◌<◌}
 use native.Mathlib.Omega.{arith}
 use Rattle.grid.specs.Layer.{Layer}
 use Rattle.step.proofs.Walks.{stick-sample}
-use Rattle.contour.specs.Walk.{first}
 use Rattle.contour.specs.Contours.{walk_of}
 use Rattle.contour.specs.Cursors.{Placed, Opened, Moved}
 use Rattle.contour.specs.declared.cursor.Cursor.{Cursor}

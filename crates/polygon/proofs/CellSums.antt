@@ -10,7 +10,7 @@ use Rattle.step.specs.Turns.{inside_left}
 use Rattle.step.specs.declared.cell.Side.{Side}
 use Rattle.step.specs.declared.cell.Side.TheVariants.{South, East, North, West}
 use Rattle.winding.proofs.Cells.{over_sides}
-use Rattle.polygon.specs.Polygon.{xAt, yAt}
+use Rattle.polygon.specs.Polygon.{x_at, y_at}
 
 -- the walk enters the cell by the side
 abbrev pub enters_by : Corners → Side → Bool
@@ -34,11 +34,11 @@ module _ (G : ℕ) (o : Edge → ℕ) (c r : ℕ) (k : Corners) where
   -- what they add, and what they take
   abbrev pub added_in : ℕ
   unfolding xor
-  added_in = over_sides (λ s. as_number (enters_by k s) * (xAt G o (edge_on c r s) * yAt G o (edge_on c r (partner k s))))
+  added_in = over_sides (λ s. as_number (enters_by k s) * (x_at G o (edge_on c r s) * y_at G o (edge_on c r (partner k s))))
 
   abbrev pub taken_in : ℕ
   unfolding xor
-  taken_in = over_sides (λ s. as_number (enters_by k s) * (xAt G o (edge_on c r (partner k s)) * yAt G o (edge_on c r s)))
+  taken_in = over_sides (λ s. as_number (enters_by k s) * (x_at G o (edge_on c r (partner k s)) * y_at G o (edge_on c r s)))
 
   -- how much of a side is enclosed: all or nothing, or the part up to the vertex or from it
   abbrev pub part_of : Bool → Side → ℕ

@@ -19,7 +19,7 @@ use Rattle.step.specs.Walk.{next}
 use Rattle.step.specs.declared.cell.Side.TheVariants.{South, East, North, West}
 use Rattle.contour.specs.Walk.{first}
 use Rattle.contour.specs.Contours.{walk_of, contour_of, first_sticks}
-use Rattle.polygon.specs.Polygon.{xAt, yAt, enclosed, inside, Offsets, AllOffsets, Encloses, EnclosedBy, EnclosesInside}
+use Rattle.polygon.specs.Polygon.{x_at, y_at, enclosed, inside, Offsets, AllOffsets, Encloses, EnclosedBy, EnclosesInside}
 use Rattle.polygon.proofs.CellSums.{links_in, corners_in, added_in, taken_in, more_in, less_in, CellBounds}
 use Rattle.polygon.proofs.Cell.{cell-bounds}
 use Rattle.polygon.proofs.Passages.{Passage, PassageLaws, pattern, enclosed_in, contour_passage, layer_passage}
@@ -69,18 +69,18 @@ total-one (e ∷ l) = omega (arith, total-one l)
 module _ (L : Layer) (sound : Sound L) (P : Passage) (lawful : PassageLaws L P) (G : ℕ) (o : Edge → ℕ)
     (within : (e : Edge) → P.on e ≡ true → (0 < o e) × (o e < G)) where
   abbrev adds : ℕ
-  adds = total (λ e. xAt G o e * yAt G o (next L e)) P.sticks
+  adds = total (λ e. x_at G o e * y_at G o (next L e)) P.sticks
 
   abbrev takes : ℕ
-  takes = total (λ e. xAt G o (next L e) * yAt G o e) P.sticks
+  takes = total (λ e. x_at G o (next L e) * y_at G o e) P.sticks
 
   added-sum : over_cells L (λ c r. added_in G o c r (pattern P c r)) ≡ adds
   unfolding xor
-  added-sum = by-cells L sound P lawful (λ d e. xAt G o d * yAt G o e)
+  added-sum = by-cells L sound P lawful (λ d e. x_at G o d * y_at G o e)
 
   taken-sum : over_cells L (λ c r. taken_in G o c r (pattern P c r)) ≡ takes
   unfolding xor
-  taken-sum = by-cells L sound P lawful (λ d e. xAt G o e * yAt G o d)
+  taken-sum = by-cells L sound P lawful (λ d e. x_at G o e * y_at G o d)
 
   links-sum : over_cells L (λ c r. links_in (pattern P c r)) ≡ length P.sticks
   unfolding xor
@@ -119,6 +119,6 @@ module _ (L : Layer) (sound : Sound L) where
   pub encloses-inside : (G : ℕ) (o : Edge → ℕ) → AllOffsets L G o → EnclosesInside L G o
   unfolding inside
   encloses-inside G o within =
-      let all-added = total-parts (contour_of L) (λ e. xAt G o e * yAt G o (next L e)) (first_sticks L) in
-      let all-taken = total-parts (contour_of L) (λ e. xAt G o (next L e) * yAt G o e) (first_sticks L) in
+      let all-added = total-parts (contour_of L) (λ e. x_at G o e * y_at G o (next L e)) (first_sticks L) in
+      let all-taken = total-parts (contour_of L) (λ e. x_at G o (next L e) * y_at G o e) (first_sticks L) in
       rw (sym all-added, sym all-taken) (passage-encloses L sound (layer_passage L) (layer-lawful sound) G o within)

@@ -13,19 +13,19 @@ use Rattle.contour.specs.Contours.{walk_of, contour_of, first_sticks}
 use Rattle.winding.specs.Turns.{is_on, around, is_bore}
 
 -- the vertex on e
-abbrev pub xAt : ℕ → (Edge → ℕ) → Edge → ℕ
-xAt G o e = G * e.column + cond e.vertical 0 (o e)
+abbrev pub x_at : ℕ → (Edge → ℕ) → Edge → ℕ
+x_at G o e = G * e.column + cond e.vertical 0 (o e)
 
-abbrev pub yAt : ℕ → (Edge → ℕ) → Edge → ℕ
-yAt G o e = G * e.row + cond e.vertical (o e) 0
+abbrev pub y_at : ℕ → (Edge → ℕ) → Edge → ℕ
+y_at G o e = G * e.row + cond e.vertical (o e) 0
 
 -- The polygon's edge from the stick e to the next adds its start's X times its end's Y to twice the signed area, and takes its end's X times its
 -- start's Y from it: the sums of both over the contour that starts at f.
 abbrev pub added : Layer → ℕ → (Edge → ℕ) → Edge → ℕ
-added L G o f = total (λ e. xAt G o e * yAt G o (next L e)) (contour_of L f)
+added L G o f = total (λ e. x_at G o e * y_at G o (next L e)) (contour_of L f)
 
 abbrev pub taken : Layer → ℕ → (Edge → ℕ) → Edge → ℕ
-taken L G o f = total (λ e. xAt G o (next L e) * yAt G o e) (contour_of L f)
+taken L G o f = total (λ e. x_at G o (next L e) * y_at G o e) (contour_of L f)
 
 -- how many samples the contour is around
 unfoldable pub enclosed : Layer → Edge → ℕ

@@ -49,7 +49,7 @@ pub record Piece (L : Layer) (v : Bool) (r at start x n : ℕ) : Type 0 where
   pub fits : 8 * at + n ≤ edge_columns L.size v
 
 module _ {L : Layer} {v : Bool} {r at columns : ℕ} (wide : columns ≡ edge_columns L.size v) where
-  -- of what `grid::row_start_lem`, `mask::stick_byte` and `mask::run_length` ensure
+  -- of what `grid::row_start`, `mask::stick_byte` and `mask::run_length` ensure
   pub piece : {start x n : ℕ} → start ≡ row_start L.size v r → StickBits L v at r x
       → (n ≤ 8) × (8 * at + n ≤ columns) × (1 ≤ n) × (n < 8 → 8 * at + n ≡ columns) → Piece L v r at start x n
   piece {n = n} starts marks (small, fits, some, full) = record {

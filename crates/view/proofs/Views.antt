@@ -61,7 +61,7 @@ place-below width column row w c r =
     let b : row * ((width + 7) / 8) ≤ 2 ^ 16 * 2 ^ 16 = mul-le-mul {n₂ = 2 ^ 16} {m₂ = 2 ^ 16} (omega arith) (omega arith) in
     omega arith
 
--- a record of what `made_of_lem` and `part_of_lem` give shows the view of the layer
+-- a record of what `made_of` and `part_of` give shows the view of the layer
 pub shows-view : (L : Layer) (m : Made) (b : List ℕ) → m ≡ made_of (view_of L) → b ≡ part_of m.number L.bitmap
     → record { layer = layer_of (size_of m.width m.height) b; number = m.number; place = m.place } ≡ view_of L
 shows-view L m b e f =

@@ -1,5 +1,4 @@
-// The layer view and the thin functions over it. A record that holds a reference is outside of what the prover follows by itself, so
-// each is proved by a walk of its statements.
+// The layer view and the thin functions over it.
 ghost use Rattle.std.specs.Prelude.{◌≡◌};
 ghost use Rattle.grid.specs.Layer.{layer_of, size_of};
 ghost use Rattle.view.specs.View.{shown, view_of, sample_or_outside, sample_of};

@@ -1,14 +1,14 @@
 -- `ask_chords` meets its contract.
-use Rattle.edit.proofs.Asked.{yes_of, no_of}
+use mathlib.Core.Path.{◌∙◌, sym}
 use Rattle.edit.proofs.edit.ask_chords.Goals as goal
 
 pub returns-then-not-crosses_both : goal.returns-then-not-crosses_both
-returns-then-not-crosses_both c = rw (no_of c.crosses_both.ensures c.if-not-crosses_both.true-raw)
+returns-then-not-crosses_both c = rw (sym c.crosses_both.ensures ∙ c.if-not-crosses_both.true)
 
 pub returns-then-not-within_both : goal.returns-then-not-within_both
 returns-then-not-within_both c =
-    rw (yes_of c.crosses_both.ensures c.if-not-crosses_both.false-raw, no_of c.within_both.ensures c.if-not-within_both.true-raw)
+    rw (sym c.crosses_both.ensures ∙ c.if-not-crosses_both.false, sym c.within_both.ensures ∙ c.if-not-within_both.true)
 
 pub returns : goal.returns
 returns c =
-    rw (yes_of c.crosses_both.ensures c.if-not-crosses_both.false-raw, yes_of c.within_both.ensures c.if-not-within_both.false-raw)
+    rw (sym c.crosses_both.ensures ∙ c.if-not-crosses_both.false, sym c.within_both.ensures ∙ c.if-not-within_both.false)

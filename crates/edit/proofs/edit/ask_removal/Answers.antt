@@ -3,7 +3,7 @@ use mathlib.Core.Path.{◌≡◌, sym, ◌∙◌}
 use mathlib.Core.Bool.{true, true≢false}
 use Rattle.grid.specs.Layer.{layer_of}
 use Rattle.edit.specs.Edits.{may_move}
-use Rattle.edit.proofs.Asked.{yes_of, no_of, editable, named-entry, pinned-no, unpinned-yes, removal-pinned, removal-missed, removal-far, removal-done, removal-third-left}
+use Rattle.edit.proofs.Asked.{editable, named-entry, pinned-no, unpinned-yes, removal-pinned, removal-missed, removal-far, removal-done, removal-third-left}
 use Rattle.edit.proofs.edit.ask_removal.Goals as goal
 
 pub carries_pin-requires : goal.carries_pin-requires
@@ -21,15 +21,15 @@ returns-then-not-crosses_all c =
     let unpinned : (let a = c.args in may_move (layer_of a.size a.bitmap.now) a.table.now a.stick ≡ true) =
     unpinned-yes _ _ c.args.stick c.carries_pin.ensures c.if-carries_pin.false in
     removal-missed c.args.t c.args.place c.requires unpinned c.edge_named-e.ensures
-    c.joined-over.ensures.value (no_of c.crosses_all.ensures c.if-not-crosses_all.true-raw)
+    c.joined-over.ensures.value (sym c.crosses_all.ensures ∙ c.if-not-crosses_all.true)
 
 pub returns-then-not-within_all : goal.returns-then-not-within_all
 returns-then-not-within_all c =
     let unpinned : (let a = c.args in may_move (layer_of a.size a.bitmap.now) a.table.now a.stick ≡ true) =
     unpinned-yes _ _ c.args.stick c.carries_pin.ensures c.if-carries_pin.false in
     removal-far c.args.t c.args.place c.requires unpinned c.edge_named-e.ensures
-    c.joined-over.ensures.value (yes_of c.crosses_all.ensures c.if-not-crosses_all.false-raw)
-    (no_of c.within_all.ensures c.if-not-within_all.true-raw)
+    c.joined-over.ensures.value (sym c.crosses_all.ensures ∙ c.if-not-crosses_all.false)
+    (sym c.within_all.ensures ∙ c.if-not-within_all.true)
 
 pub leaves_three-requires : goal.leaves_three-requires
 leaves_three-requires c =
@@ -42,13 +42,13 @@ returns-then-not-leaves_three c =
     unpinned-yes _ _ c.args.stick c.carries_pin.ensures c.if-carries_pin.false in
     let left =
     removal-third-left c.args.t c.args.place c.requires unpinned c.edge_named-e.ensures
-    c.joined-over.ensures.value (yes_of c.crosses_all.ensures c.if-not-crosses_all.false-raw) in
-    absurd (true≢false (sym left ∙ no_of c.leaves_three.ensures c.if-not-leaves_three.true-raw))
+    c.joined-over.ensures.value (sym c.crosses_all.ensures ∙ c.if-not-crosses_all.false) in
+    absurd (true≢false (sym left ∙ sym c.leaves_three.ensures ∙ c.if-not-leaves_three.true))
 
 pub returns : goal.returns
 returns c =
     let unpinned : (let a = c.args in may_move (layer_of a.size a.bitmap.now) a.table.now a.stick ≡ true) =
     unpinned-yes _ _ c.args.stick c.carries_pin.ensures c.if-carries_pin.false in
     removal-done c.args.t c.args.place c.requires unpinned c.edge_named-e.ensures
-    c.joined-over.ensures.value (yes_of c.crosses_all.ensures c.if-not-crosses_all.false-raw)
-    (yes_of c.within_all.ensures c.if-not-within_all.false-raw)
+    c.joined-over.ensures.value (sym c.crosses_all.ensures ∙ c.if-not-crosses_all.false)
+    (sym c.within_all.ensures ∙ c.if-not-within_all.false)

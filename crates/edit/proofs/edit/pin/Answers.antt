@@ -1,11 +1,12 @@
 -- `pin` meets its contract.
+use mathlib.Core.Bool.{not}
 use mathlib.Core.Path.{refl, sym, ◌∙◌, ap, subst}
 use Rattle.grid.specs.Layer.{layer_of}
 use Rattle.grid.specs.declared.edge.Edge.{Edge}
 use Rattle.table.specs.Vertices.{offset_at}
 use Rattle.table.specs.Stores.{pinned}
 use Rattle.table.specs.Lent.{HasEntry}
-use Rattle.edit.proofs.Asked.{yes_of, not-kept, is-kept, in_table, pin-none, pin-done}
+use Rattle.edit.proofs.Asked.{not-kept, is-kept, in_table, pin-none, pin-done}
 use Rattle.edit.proofs.edit.pin.Goals as goal
 
 pub returns-then-not-carries_kept : goal.returns-then-not-carries_kept
@@ -14,14 +15,14 @@ returns-then-not-carries_kept c =
     let told = c.carries_kept.ensures in record {
       by_index = λ bitmap.
           let L = layer_of a.size bitmap in
-          pin-none L a.table.now a.place a.stick (not-kept L a.table.now a.stick told c.if-not-carries_kept.true-raw);
+          pin-none L a.table.now a.place a.stick (not-kept L a.table.now a.stick told (ap not c.if-not-carries_kept.true));
       by_index_2 = λ bitmap. refl;
     }
 
 pub pin-requires : goal.pin-requires
 pin-requires c =
     subst (HasEntry c.args.size c.args.table.now) (sym c.edge_named.ensures)
-    (in_table c.args.stick c.requires (yes_of c.carries_kept.ensures c.if-not-carries_kept.false-raw))
+    (in_table c.args.stick c.requires (sym c.carries_kept.ensures ∙ c.if-not-carries_kept.false))
 
 pub returns : goal.returns
 unfolding offset_at
@@ -30,7 +31,7 @@ returns c =
       by_index = λ bitmap.
           let L = layer_of a.size bitmap in
           pin-done L a.table.now a.place a.stick
-          (is-kept L a.table.now a.stick c.carries_kept.ensures c.if-not-carries_kept.false-raw);
+          (is-kept L a.table.now a.stick c.carries_kept.ensures (ap not c.if-not-carries_kept.false));
       by_index_2 = λ bitmap.
           c.pin.ensures ∙ ap (λ (e : Edge). pinned (layer_of a.size bitmap) a.table.now e) c.edge_named.ensures;
     }

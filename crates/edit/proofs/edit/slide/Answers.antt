@@ -1,4 +1,5 @@
 -- `slide` meets its contract. `here` is question 9 answered yes, from which the rest goes on.
+use mathlib.Core.Bool.{not}
 use mathlib.Core.Path.{refl, sym, ◌∙◌, ap}
 use Rattle.grid.specs.Layer.{layer_of}
 use Rattle.grid.specs.declared.edge.Edge.{Edge}
@@ -14,13 +15,13 @@ here : (k : Else-not-carries_kept)
     → let a = k.args in
     NamedKept (layer_of a.size a.bitmap.now) a.table.now a.stick
 here k =
-    named-kept _ _ k.args.stick k.carries_kept.ensures k.requires k.if-not-carries_kept.false-raw
+    named-kept _ _ k.args.stick k.carries_kept.ensures k.requires (ap not k.if-not-carries_kept.false)
 
 pub returns-then-not-carries_kept : goal.returns-then-not-carries_kept
 returns-then-not-carries_kept c =
     let a = c.args in
     let L = layer_of a.size a.bitmap.now in
-    let none = not-kept L _ a.stick c.carries_kept.ensures c.if-not-carries_kept.true-raw in
+    let none = not-kept L _ a.stick c.carries_kept.ensures (ap not c.if-not-carries_kept.true) in
     record { value = slide_none L a.t a.table.now a.place a.stick a.offset none; table_after = refl }
 
 pub ask_slide-answer-requires : goal.ask_slide-answer-requires
@@ -36,7 +37,7 @@ pub store-requires : goal.store-requires
 store-requires c =
     let here : (let a = c.args in
     NamedKept (layer_of a.size a.bitmap.now) a.table.now a.stick) =
-    named-kept _ _ c.args.stick c.carries_kept.ensures c.requires c.if-not-carries_kept.false-raw in
+    named-kept _ _ c.args.stick c.carries_kept.ensures c.requires (ap not c.if-not-carries_kept.false) in
     let k = editable here c.edge_named.ensures in
     read_at k.accepted c.edge_named.result k.drawn.stick
 

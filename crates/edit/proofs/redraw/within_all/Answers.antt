@@ -1,6 +1,6 @@
 -- `within_all` meets its contract. The invariant: the sticks that are left are within the tolerance if all are. `stick-here` and
 -- `answer-here` say what a turn learns of its stick.
-use mathlib.Core.Path.{◌≡◌, ◌∙◌, ap}
+use mathlib.Core.Path.{sym, ◌≡◌, ◌∙◌, ap}
 use mathlib.Core.Bool.{true}
 use Rattle.grid.specs.Layer.{layer_of}
 use Rattle.grid.specs.Edges.{is_stick}
@@ -10,7 +10,6 @@ use Rattle.chord.proofs.Tests.{stick-near}
 use Rattle.table.specs.Vertices.{offset_in, offset_at}
 use Rattle.table.proofs.Lent.{has-entry}
 use Rattle.edit.specs.Chords.{slides_at}
-use Rattle.edit.proofs.Asked.{yes_of, no_of}
 use Rattle.edit.proofs.Within.{within-start}
 use Rattle.edit.proofs.redraw.within_all.Goals as goal
 
@@ -46,7 +45,7 @@ returns-then-not-slides_within c =
     ≡ slides_at (layer_of a.size a.bitmap.now) a.table.now a.t a.c.from a.c.to c.next_stick-at.result) =
     c.slides_within.ensures ∙ ap (slides_within _ _ _ _) (c.offset_in.ensures ∙ ap offset_in c.entry_at.ensures) in
     tests-no c.loop-left.invariant c.loop-left-test.true c.next_stick-at.ensures
-    (no_of answer-here c.if-not-slides_within.true-raw)
+    (sym answer-here ∙ c.if-not-slides_within.true)
 
 pub loop-left-preserved : goal.loop-left-preserved
 unfolding offset_at
@@ -56,7 +55,7 @@ loop-left-preserved c =
     ≡ slides_at (layer_of a.size a.bitmap.now) a.table.now a.t a.c.from a.c.to c.next_stick-at.result) =
     c.slides_within.ensures ∙ ap (slides_within _ _ _ _) (c.offset_in.ensures ∙ ap offset_in c.entry_at.ensures) in
     tests-turn c.loop-left.invariant c.loop-left-test.true c.next_stick-at.ensures
-    c.requires.laid.sound (yes_of answer-here c.if-not-slides_within.false-raw)
+    c.requires.laid.sound (sym answer-here ∙ c.if-not-slides_within.false)
 
 pub returns : goal.returns
 returns c = tests-end c.loop-left.invariant c.loop-left-test.false

@@ -1,5 +1,4 @@
 -- `around_at` meets its contract. The invariant: the sweep stands at `at` with `count` contours around the sample.
-use Prim.Native.Nat.{◌-◌}
 use native.Mathlib.Omega.{arith}
 use Rattle.nesting.proofs.Sweeping.{row-turn, row_last}
 use Rattle.nesting.proofs.sweep.around_at.Goals as goal

@@ -1,6 +1,6 @@
 -- `over_byte` meets its contract. The invariant: the bits that are left mark the sticks from `at` on, and `count` contours are around the sample
 -- there.
-use Prim.Native.Nat.{◌+◌, ◌-◌, ◌<◌}
+use Prim.Native.Nat.{◌+◌, ◌<◌}
 use native.Mathlib.Omega.{arith}
 use Rattle.nesting.proofs.Sweeping.{byte-within, byte-start, byte-room, byte-narrow, byte-stick, byte_past, byte-turn, byte_last}
 use Rattle.nesting.proofs.sweep.over_byte.Goals as goal
