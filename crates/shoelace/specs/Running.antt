@@ -1,5 +1,5 @@
 -- How the drawn edges are summed in the order of the number of the stick they start from: one stick after the other, as the code goes.
-use Rattle.std.specs.Prelude.{◌≡◌, Bool, true, cond, ℕ, ◌+◌, ◌-◌, ◌*◌, ◌^◌, min, ◌≤◌, ◌<◌, ℤ, nat_abs, ◌+ℤ◌, length, set}
+use Rattle.std.specs.Prelude.{◌≡◌, Bool, true, cond, ℕ, ◌+◌, ◌*◌, ◌^◌, min, ◌≤◌, ◌<◌, ℤ, nat_abs, ◌+ℤ◌, length, set}
 use mathlib.Core.List.{List, foldl}
 use Rattle.std.proofs.lemmas.List.Edits.{sets}
 use Rattle.grid.specs.Layer.{Layer}

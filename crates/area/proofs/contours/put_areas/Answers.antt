@@ -4,7 +4,6 @@ use native.Mathlib.Omega.{arith}
 use mathlib.Core.Path.{◌∙◌}
 use Rattle.arith.proofs.Bounds.{sized, exact}
 use Rattle.grid.specs.Layer.{layer_of}
-use Rattle.contour.specs.Cursors.{left}
 use Rattle.contour.proofs.Cursors.{here-stick, fewer}
 use Rattle.shoelace.specs.Adds.{HeldStick}
 use Rattle.area.proofs.Summing.{area_small}

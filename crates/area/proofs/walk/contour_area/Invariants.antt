@@ -1,6 +1,4 @@
 use lib.ListN.{length}
-use mir.Syntax.{w64}
-use mir.Val.{to_z}
 use Rattle.grid.specs.Layer.{layer_of}
 use Rattle.contour.specs.Walk.{rest}
 use Rattle.contour.specs.Contours.{walk_of}

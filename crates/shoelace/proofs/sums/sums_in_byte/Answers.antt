@@ -1,5 +1,5 @@
 -- `sums_in_byte` meets its contract. The invariant: the bits that are left mark the sticks from `column` on, and the code stands there.
-use Prim.Native.Nat.{◌+◌, ◌-◌, ◌*◌, ◌<◌}
+use Prim.Native.Nat.{◌+◌, ◌*◌, ◌<◌}
 use native.Mathlib.Omega.{arith}
 use Rattle.shoelace.proofs.Running.{byte-start, byte-room, byte-stick, byte-turn, byte_last}
 use Rattle.shoelace.proofs.sums.sums_in_byte.Goals as goal

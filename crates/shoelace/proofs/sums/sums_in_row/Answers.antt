@@ -1,5 +1,4 @@
 -- `sums_in_row` meets its contract. The invariant: the bytes of the row before `at` are done.
-use Prim.Native.Nat.{◌-◌}
 use native.Mathlib.Omega.{arith}
 use Rattle.shoelace.proofs.Running.{row-start, row_here, row-turn, row-end}
 use Rattle.shoelace.proofs.sums.sums_in_row.Goals as goal

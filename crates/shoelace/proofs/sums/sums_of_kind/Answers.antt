@@ -1,5 +1,5 @@
 -- `sums_of_kind` meets its contract. The invariant: the rows before `row` are done.
-use Prim.Native.Nat.{◌-◌, ◌<◌}
+use Prim.Native.Nat.{◌<◌}
 use native.Mathlib.Omega.{arith}
 use Rattle.grid.specs.Edges.{edge_rows}
 use Rattle.shoelace.proofs.Running.{stay, kind-here, kind-turn, kind-end}

@@ -1,6 +1,5 @@
 -- `count_kept` meets its contract. The invariant: the kept vertices of the entries passed are counted.
 use mathlib.Core.Path.{◌≡◌, sym, ap, ◌∙◌}
-use Prim.Native.Nat.{◌-◌}
 use native.Mathlib.Omega.{arith}
 use lib.ListN.{length}
 use Rattle.arith.specs.Booleans.{as_number}
