@@ -2,7 +2,9 @@
 // standard output. `slicing::slice` has the work.
 #![tactic(auto)]
 
+ghost use Rattle.std.specs.Prelude.{◌<◌, length, take, IfOk};
 ghost use Rattle.std.specs.Io.{ReadsAtMost};
+ghost use Rattle.std.specs.Io.KnownBytes.{Consumes, IsAtEnd};
 
 use slicing::ANSWER_LIMIT;
 use std::io;
@@ -14,7 +16,9 @@ const INPUT_LIMIT: usize = 518;
 
 // Reads until the place is full or the input ends, and returns how many bytes it put at the start of the place.
 fn read_full<R: Read>(input: &mut R, place: &mut [u8]) -> io::Result<usize>
-    ensures { ReadsAtMost result place.new }
+    ensures bound { ReadsAtMost result place.new }
+    ensures taken { IfOk result (λ n. Consumes (R.remaining input.old) (R.remaining input.new) (take n place.new)) }
+    ensures short_at_end { IfOk result (λ n. n < length place.new → IsAtEnd (R.remaining input.new)) }
 {
     let mut done = 0;
     while done < place.len() {
