@@ -74,8 +74,8 @@ fn samples_byte(samples: usize) -> u8
 fn row_line(samples: usize) -> Line
     requires le_samples { 1 ≤ samples }
     requires samples_bound { samples ≤ 5 }
-    ensures value { result ≡ row_line samples }
-    ensures value_2 { result ≡ ceiling_line samples }
+    ensures found { result ≡ row_line samples }
+    ensures reached { result ≡ ceiling_line samples }
 {
     let bitmap: [u8; 3] = [0, samples_byte(samples), 0];
     let mut table: [u16; 32] = [0; 32];
