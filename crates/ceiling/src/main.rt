@@ -1,13 +1,15 @@
 // The ceiling program: for each even n from 4 to 12 a line with n and the runs that Simplify tries at T 0 on a held layer with one contour of n
 // vertices, 2n - 2 (Note 8): a row of inside samples, traced and slid (specs/Reached.antt).
+#![tactic(auto)]
+
 ghost use Rattle.std.specs.Prelude.{◌≡◌, [], ◌≤◌};
 ghost use Rattle.grid.specs.Layer.{layer_of, size_of};
 ghost use Rattle.trace.specs.Counts.{figures_of};
 ghost use Rattle.simplify.specs.Call.{outcome};
 ghost use Rattle.ceiling.specs.Reached.{samples_byte, line_after, row_line, ceiling_line};
 
-use libc::STDOUT_FILENO;
 use simplify::Simplified;
+use std::io;
 use trace::Counted;
 
 // The roll for a row of five samples: four slides (S, kind 1, column 4 or 2, row 0 or 1, offset 100), and E. `longest_roll` of specs/Reached.antt.
@@ -72,8 +74,8 @@ fn samples_byte(samples: usize) -> u8
 fn row_line(samples: usize) -> Line
     requires le_samples { 1 ≤ samples }
     requires samples_bound { samples ≤ 5 }
-    ensures value { result ≡ row_line samples }
-    ensures value_2 { result ≡ ceiling_line samples }
+    ensures found { result ≡ row_line samples }
+    ensures reached { result ≡ ceiling_line samples }
 {
     let bitmap: [u8; 3] = [0, samples_byte(samples), 0];
     let mut table: [u16; 32] = [0; 32];
@@ -88,19 +90,17 @@ fn row_line(samples: usize) -> Line
     )
 }
 
-fn write_line(samples: usize)
+fn write_line(out: &impl Print, samples: usize) -> io::Result<()>
     requires le_samples { 1 ≤ samples }
     requires samples_bound { samples ≤ 5 }
 {
     let line = row_line(samples);
-    io::print_decimal(STDOUT_FILENO, line.vertices as u64);
-    io::write_all(STDOUT_FILENO, b" ");
-    io::print_decimal(STDOUT_FILENO, line.tried as u64);
-    io::write_all(STDOUT_FILENO, b"\n");
+    println!(out; "{} {}", line.vertices, line.tried)
 }
 
-fn main() {
+fn main(rt: HostRuntime) -> io::Result<()> {
     for samples in 1..=5 {
-        write_line(samples);
+        write_line(&rt, samples)?;
     }
+    Ok(())
 }

@@ -1,12 +1,14 @@
 // The halves program: for each k from 1 to 254 a line with k.5 and the new offsets of four vertices for which old + 2/5 of (v - old) is that. No
 // layer comes to a half, so no call shows how one is rounded.
+#![tactic(auto)]
+
 ghost use Rattle.std.specs.Prelude.{◌≡◌, ◌≤◌};
 ghost use Rattle.halves.specs.Halves.{IsPlaced, moved_to, toward_middle};
 
 use chord::Position;
 use grid::Edge;
-use libc::STDOUT_FILENO;
 use offset::new_offset;
+use std::io;
 
 // The new offset of the vertex at `old` of a stick on the line 256, whose neighbours lie 1 before that line and 3 after it, at `before` and
 // `after` along the stick: v is (3·before + after) / 4.
@@ -52,26 +54,25 @@ fn from_above(vertical: bool, k: usize) -> u8
     moved(vertical, (k + 1) as u8, k, k - 1)
 }
 
-fn put(n: u8) {
-    io::write_all(STDOUT_FILENO, b" ");
-    io::print_decimal(STDOUT_FILENO, n as u64);
+fn put(out: &impl Print, n: u8) -> io::Result<()> {
+    print!(out; " {n}")
 }
 
-fn write_line(k: usize)
+fn write_line(out: &impl Print, k: usize) -> io::Result<()>
     requires le_k { 1 ≤ k }
     requires k_bound { k ≤ 254 }
 {
-    io::print_decimal(STDOUT_FILENO, k as u64);
-    io::write_all(STDOUT_FILENO, b".5");
-    put(from_below(false, k));
-    put(from_above(false, k));
-    put(from_below(true, k));
-    put(from_above(true, k));
-    io::write_all(STDOUT_FILENO, b"\n");
+    print!(out; "{k}.5")?;
+    put(out, from_below(false, k))?;
+    put(out, from_above(false, k))?;
+    put(out, from_below(true, k))?;
+    put(out, from_above(true, k))?;
+    println!(out; "")
 }
 
-fn main() {
+fn main(rt: HostRuntime) -> io::Result<()> {
     for k in 1..=254 {
-        write_line(k);
+        write_line(&rt, k)?;
     }
+    Ok(())
 }

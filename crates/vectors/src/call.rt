@@ -7,43 +7,68 @@ use super::text::text_call;
 use super::{line, script, state};
 use grid::{Answer, Size};
 use report::Report;
+use std::io;
+use std::io::Read;
 
 // Makes a call on the bytes and entries in use.
-pub fn answer_call(bitmap: &[u8], table: &mut [u16], state: State) -> bool {
+pub fn answer_call(
+    input: &mut impl Read,
+    out: &impl Print,
+    bitmap: &[u8],
+    table: &mut [u16],
+    state: State,
+) -> io::Result<bool> {
     let bytes = state::within(state.bytes, bitmap.len());
     let entries = state::within(state.entries, table.len());
-    call(&bitmap[0..bytes], &mut table[0..entries], state)
+    call(input, out, &bitmap[0..bytes], &mut table[0..entries], state)
 }
 
-fn call(bitmap: &[u8], table: &mut [u16], state: State) -> bool {
-    let right = make(bitmap, table, state);
+fn call(
+    input: &mut impl Read,
+    out: &impl Print,
+    bitmap: &[u8],
+    table: &mut [u16],
+    state: State,
+) -> io::Result<bool> {
+    let right = make(input, out, bitmap, table, state)?;
     if right {
-        line::end(digest_of(table));
+        line::end(out, digest_of(table))?;
     }
-    right
+    Ok(right)
 }
 
-fn make(bitmap: &[u8], table: &mut [u16], state: State) -> bool {
+fn make(
+    input: &mut impl Read,
+    out: &impl Print,
+    bitmap: &[u8],
+    table: &mut [u16],
+    state: State,
+) -> io::Result<bool> {
     let letter = state.letter;
     match letter {
-        b'T' => trace_call(bitmap, table, state),
-        b'N' => counts_call(bitmap, table, state),
-        b'H' => held_call(bitmap, table, state),
-        b'S' => smooth_call(bitmap, table, state),
-        b'Y' => simplify_call(bitmap, table, state),
-        b'A' => areas_call(bitmap, table, state),
-        _ => text_call(bitmap, table, state),
+        b'T' => trace_call(out, bitmap, table, state),
+        b'N' => counts_call(out, bitmap, table, state),
+        b'H' => held_call(out, bitmap, table, state),
+        b'S' => smooth_call(out, bitmap, table, state),
+        b'Y' => simplify_call(out, bitmap, table, state),
+        b'A' => areas_call(out, bitmap, table, state),
+        _ => text_call(input, out, bitmap, table, state),
     }
 }
 
-fn trace_call(bitmap: &[u8], table: &mut [u16], state: State) -> bool {
+fn trace_call(
+    out: &impl Print,
+    bitmap: &[u8],
+    table: &mut [u16],
+    state: State,
+) -> io::Result<bool> {
     let traced = trace::trace(state.w, state.h, bitmap, table);
-    line::begin(state.letter, report::traced_report(traced))
+    line::begin(out, state.letter, report::traced_report(traced))
 }
 
-fn counts_call(bitmap: &[u8], table: &[u16], state: State) -> bool {
+fn counts_call(out: &impl Print, bitmap: &[u8], table: &[u16], state: State) -> io::Result<bool> {
     let counted = trace::counts(state.w, state.h, bitmap, table);
-    line::begin(state.letter, report::counted_report(counted))
+    line::begin(out, state.letter, report::counted_report(counted))
 }
 
 fn size_of(state: State) -> Size {
@@ -61,19 +86,29 @@ fn report_of(answer: Answer) -> Report {
     }
 }
 
-fn held_call(bitmap: &[u8], table: &[u16], state: State) -> bool {
+fn held_call(out: &impl Print, bitmap: &[u8], table: &[u16], state: State) -> io::Result<bool> {
     let answer = held::ask_layer_held(size_of(state), bitmap, table);
-    line::begin(state.letter, report_of(answer))
+    line::begin(out, state.letter, report_of(answer))
 }
 
-fn smooth_call(bitmap: &[u8], table: &mut [u16], state: State) -> bool {
+fn smooth_call(
+    out: &impl Print,
+    bitmap: &[u8],
+    table: &mut [u16],
+    state: State,
+) -> io::Result<bool> {
     let limit = script::low(state.first);
     let smoothed = smooth::smooth(state.w, state.h, bitmap, table, limit);
-    line::begin(state.letter, report::smoothed_report(smoothed))
+    line::begin(out, state.letter, report::smoothed_report(smoothed))
 }
 
-fn simplify_call(bitmap: &[u8], table: &mut [u16], state: State) -> bool {
+fn simplify_call(
+    out: &impl Print,
+    bitmap: &[u8],
+    table: &mut [u16],
+    state: State,
+) -> io::Result<bool> {
     let t = script::lowest(state.first);
     let simplified = simplify::simplify(state.w, state.h, bitmap, table, t);
-    line::begin(state.letter, report::simplified_report(simplified))
+    line::begin(out, state.letter, report::simplified_report(simplified))
 }

@@ -1,11 +1,10 @@
 // The line that answers a call: a letter, the number and the place of the refusal, or 0 and 0 if the call was done, its
 // figures, the digests of its outputs, and the digest of the table.
-use libc::STDOUT_FILENO;
 use report::Report;
+use std::io;
 
-pub fn put(n: usize) {
-    io::write_all(STDOUT_FILENO, b" ");
-    io::print_decimal(STDOUT_FILENO, n as u64);
+pub fn put(out: &impl Print, n: usize) -> io::Result<()> {
+    print!(out; " {n}")
 }
 
 // How many figures a call has.
@@ -23,29 +22,28 @@ fn figures(letter: u8) -> usize {
 }
 
 // The line up to the figures. It says true: the script is right there.
-pub fn begin(letter: u8, report: Report) -> bool {
-    io::write_all(STDOUT_FILENO, &[letter]);
-    put(report.number as usize);
-    put(report.place);
+pub fn begin(out: &impl Print, letter: u8, report: Report) -> io::Result<bool> {
+    out.write_all(&[letter])?;
+    put(out, report.number as usize)?;
+    put(out, report.place)?;
     let count = figures(letter);
     if count > 0 {
-        put(report.first);
+        put(out, report.first)?;
     }
     if count > 1 {
-        put(report.second);
+        put(out, report.second)?;
     }
     if count > 2 {
-        put(report.third);
+        put(out, report.third)?;
     }
-    true
+    Ok(true)
 }
 
-pub fn end(digest: usize) {
-    put(digest);
-    io::write_all(STDOUT_FILENO, b"\n");
+pub fn end(out: &impl Print, digest: usize) -> io::Result<()> {
+    println!(out; " {digest}")
 }
 
 // Says that the script is wrong.
-pub fn wrong() {
-    io::write_all(STDOUT_FILENO, b"?\n");
+pub fn wrong(out: &impl Print) -> io::Result<()> {
+    println!(out; "?")
 }

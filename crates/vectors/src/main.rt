@@ -1,5 +1,7 @@
 // A program that reads a script of commands from standard input, carries them out, and prints a line for each call of the
 // library, so that its answers can be compared with those of another program. A script that is wrong ends with a line '?'.
+#![tactic(auto)]
+
 mod call;
 mod command;
 mod digest;
@@ -8,6 +10,9 @@ mod measure;
 mod script;
 mod state;
 mod text;
+
+use std::io;
+use std::io::Read;
 
 // The longest bitmap and table that a script may set.
 const BITMAP_LIMIT: usize = 131200;
@@ -18,21 +23,27 @@ const TABLE_LIMIT: usize = 2095200;
 const COMMAND_LIMIT: u32 = 1000000;
 
 // Carries out the commands of a script up to its end or up to one that is wrong.
-fn run(bitmap: &mut [u8], table: &mut [u16]) {
+fn run(
+    input: &mut impl Read,
+    out: &impl Print,
+    bitmap: &mut [u8],
+    table: &mut [u16],
+) -> io::Result<()> {
     let mut state = state::start();
     let mut left = COMMAND_LIMIT;
     while left > 0 {
-        state = command::carry_out(bitmap, table, state::next(state));
+        let next = state::next(input, state)?;
+        state = command::carry_out(input, out, bitmap, table, next)?;
         if state.letter == 0 {
-            return;
+            return Ok(());
         }
         left -= 1;
     }
-    line::wrong();
+    line::wrong(out)
 }
 
-fn main() {
+fn main(rt: HostRuntime) -> io::Result<()> {
     let mut bitmap = [0u8; BITMAP_LIMIT];
     let mut table = [0u16; TABLE_LIMIT];
-    run(&mut bitmap, &mut table);
+    run(&mut rt.stdin(), &rt, &mut bitmap, &mut table)
 }

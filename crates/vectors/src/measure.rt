@@ -3,6 +3,7 @@
 use super::digest::digest_signed;
 use super::line;
 use super::state::State;
+use std::io;
 
 // The longest output of areas, and the longest of sums.
 const AREAS_LIMIT: usize = 1024;
@@ -14,48 +15,67 @@ fn unset() -> i64 {
     -1
 }
 
-pub fn areas_call(bitmap: &[u8], table: &[u16], state: State) -> bool {
+pub fn areas_call(
+    out: &impl Print,
+    bitmap: &[u8],
+    table: &[u16],
+    state: State,
+) -> io::Result<bool> {
     let mut areas = [unset(); AREAS_LIMIT];
-    areas_in(bitmap, table, &mut areas, state)
+    areas_in(out, bitmap, table, &mut areas, state)
 }
 
-fn areas_in(bitmap: &[u8], table: &[u16], areas: &mut [i64], state: State) -> bool {
+fn areas_in(
+    out: &impl Print,
+    bitmap: &[u8],
+    table: &[u16],
+    areas: &mut [i64],
+    state: State,
+) -> io::Result<bool> {
     let n = state.first;
     if n > areas.len() {
-        return false;
+        return Ok(false);
     }
-    sums_call(bitmap, table, &mut areas[0..n], state)
+    sums_call(out, bitmap, table, &mut areas[0..n], state)
 }
 
-fn sums_call(bitmap: &[u8], table: &[u16], areas: &mut [i64], state: State) -> bool {
+fn sums_call(
+    out: &impl Print,
+    bitmap: &[u8],
+    table: &[u16],
+    areas: &mut [i64],
+    state: State,
+) -> io::Result<bool> {
     let mut sums = [unset(); SUMS_LIMIT];
-    sums_in(bitmap, table, areas, &mut sums, state)
+    sums_in(out, bitmap, table, areas, &mut sums, state)
 }
 
 fn sums_in(
+    out: &impl Print,
     bitmap: &[u8],
     table: &[u16],
     areas: &mut [i64],
     sums: &mut [i64],
     state: State,
-) -> bool {
+) -> io::Result<bool> {
     let m = state.second;
     if m > sums.len() {
-        return false;
+        return Ok(false);
     }
-    measure(bitmap, table, areas, &mut sums[0..m], state)
+    measure(out, bitmap, table, areas, &mut sums[0..m], state)
 }
 
 fn measure(
+    out: &impl Print,
     bitmap: &[u8],
     table: &[u16],
     areas: &mut [i64],
     sums: &mut [i64],
     state: State,
-) -> bool {
+) -> io::Result<bool> {
     let measured = area::areas(state.w, state.h, bitmap, table, areas, sums);
-    let right = line::begin(state.letter, report::measured_report(measured));
-    line::put(digest_signed(areas));
-    line::put(digest_signed(sums));
-    right
+    let right = line::begin(out, state.letter, report::measured_report(measured))?;
+    line::put(out, digest_signed(areas))?;
+    line::put(out, digest_signed(sums))?;
+    Ok(right)
 }

@@ -3,6 +3,8 @@
 ghost use Rattle.std.specs.Prelude.{◌≤◌};
 
 use super::{line, script};
+use std::io;
+use std::io::Read;
 
 // The bitmap and the table stand in slices of their own, and are their first `bytes` and their first `entries` elements. The
 // letter is 0 where no command may follow.
@@ -66,12 +68,12 @@ pub fn over(state: State) -> State {
 }
 
 // Goes on if the script is right, and else says that it is wrong.
-pub fn go_on(state: State, right: bool) -> State {
+pub fn go_on(out: &impl Print, state: State, right: bool) -> io::Result<State> {
     if right {
-        return state;
+        return Ok(state);
     }
-    line::wrong();
-    over(state)
+    line::wrong(out)?;
+    Ok(over(state))
 }
 
 // The letter is 0 if the script is cut short.
@@ -90,11 +92,11 @@ fn with(state: State, letter: u8, first: usize, second: usize) -> State {
 }
 
 // Takes the next command.
-pub fn next(state: State) -> State {
-    let letter = script::lowest(script::take_number(1));
-    let first = script::take_number(first_width(letter));
-    let second = script::take_number(second_width(letter));
-    with(state, letter, first, second)
+pub fn next(input: &mut impl Read, state: State) -> io::Result<State> {
+    let letter = script::lowest(script::take_number(input, 1)?);
+    let first = script::take_number(input, first_width(letter))?;
+    let second = script::take_number(input, second_width(letter))?;
+    Ok(with(state, letter, first, second))
 }
 
 pub fn within(n: usize, most: usize) -> usize
