@@ -15,7 +15,7 @@ use grid::Size;
 pub fn put_areas(size: Size, bitmap: &[u8], table: &[u16], set: &EdgeSet, areas: &mut [i64])
     requires accepted { Accepted (layer_of size bitmap.now) table.now }
     requires first_set { FirstSet (layer_of size bitmap.now) set.now }
-    requires table_in_bounds { length (areas_of (layer_of size bitmap.now) table.now) ≤ length areas.old }
+    requires room { length (areas_of (layer_of size bitmap.now) table.now) ≤ length areas.old }
     ensures { areas.new ≡ sets areas.old 0 (areas_of (layer_of size bitmap.now) table.now) }
 {
     let mut place: usize = 0;

@@ -34,7 +34,7 @@ fn measure_held(
     areas: &mut [i64],
     sums: &mut [i64],
 ) -> Measured
-    requires table_value { first_no (held_questions (layer_of size bitmap.now) table.now) ≡ Yes }
+    requires held { first_no (held_questions (layer_of size bitmap.now) table.now) ≡ Yes }
     requires first_set { FirstSet (layer_of size bitmap.now) set.now }
     ensures { outcome result areas.new sums.new ≡ measure_of (layer_of size bitmap.now) table.now areas.old sums.old }
 {

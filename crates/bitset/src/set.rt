@@ -114,7 +114,7 @@ pub fn next_first(set: &EdgeSet, from: usize, end: usize) -> usize
 pub fn member_count(set: &EdgeSet, end: usize) -> usize
     requires set_len { length set.now ≡ words }
     requires end_le_set_bits { end ≤ set_bits }
-    requires by_index { (n : ℕ) → end ≤ n → has set.now n ≡ false }
+    requires none_above { (n : ℕ) → end ≤ n → has set.now n ≡ false }
     ensures { result ≡ member_count set.now }
 {
     let mut sum: usize = 0;

@@ -10,8 +10,8 @@ use grid::Edge;
 
 // Whether p and q lie strictly on different sides of the edge's line.
 fn are_parted(p: Position, q: Position, e: Edge) -> bool
-    requires near { Near p }
-    requires near_2 { Near q }
+    requires p_near { Near p }
+    requires q_near { Near q }
     requires near_edge { NearEdge e }
     ensures { result ≡ parted p q e }
 {
@@ -28,8 +28,8 @@ fn are_parted(p: Position, q: Position, e: Edge) -> bool
 }
 
 fn total_of(p: Position, q: Position, e: Edge) -> usize
-    requires near { Near p }
-    requires near_2 { Near q }
+    requires p_near { Near p }
+    requires q_near { Near q }
     requires near_edge { NearEdge e }
     ensures value { result ≡ total p q e }
     ensures upper_bound { result ≤ 524288 }
@@ -38,8 +38,8 @@ fn total_of(p: Position, q: Position, e: Edge) -> usize
 }
 
 fn meeting_of(p: Position, q: Position, e: Edge) -> usize
-    requires near { Near p }
-    requires near_2 { Near q }
+    requires p_near { Near p }
+    requires q_near { Near q }
     requires near_edge { NearEdge e }
     ensures value { result ≡ meeting p q e }
     ensures upper_bound { result ≤ 137438953472 }
@@ -49,8 +49,8 @@ fn meeting_of(p: Position, q: Position, e: Edge) -> usize
 
 // Whether the chord crosses the edge, strictly between its two samples.
 pub fn crosses_stick(p: Position, q: Position, e: Edge) -> bool
-    requires near { Near p }
-    requires near_2 { Near q }
+    requires p_near { Near p }
+    requires q_near { Near q }
     requires near_edge { NearEdge e }
     ensures { result ≡ crosses p q e }
 {
@@ -68,8 +68,8 @@ pub fn crosses_stick(p: Position, q: Position, e: Edge) -> bool
 
 // Whether a vertex at an offset of the edge slides to the chord by at most t.
 pub fn slides_within(t: u8, p: Position, q: Position, e: Edge, offset: u8) -> bool
-    requires near { Near p }
-    requires near_2 { Near q }
+    requires p_near { Near p }
+    requires q_near { Near q }
     requires near_edge { NearEdge e }
     ensures { result ≡ slides_within t p q e offset }
 {

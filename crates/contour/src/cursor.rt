@@ -45,7 +45,7 @@ pub fn first_contour(size: Size, bitmap: &[u8], set: &EdgeSet) -> Cursor
 pub fn next_contour(size: Size, bitmap: &[u8], set: &EdgeSet, at: Cursor) -> Cursor
     requires first_set { FirstSet (layer_of size bitmap.now) set.now }
     requires placed { Placed (layer_of size bitmap.now) at }
-    requires more_value { at.more ≡ true }
+    requires more { at.more ≡ true }
     ensures { Moved (layer_of size bitmap.now) at result }
 {
     cursor_from(size, bitmap, set, at.number + 1)

@@ -19,7 +19,7 @@ pub struct EdgeEnd {
 // The next kept stick after e. As e is not removed, the walk ends when it is back at e, if not before.
 pub fn kept_after(size: Size, bitmap: &[u8], table: &[u16], e: Edge) -> EdgeEnd
     requires lent_at { LentAt (layer_of size bitmap.now) table.now e }
-    requires e_value { removed_at (layer_of size bitmap.now) table.now e ≡ false }
+    requires not_removed { removed_at (layer_of size bitmap.now) table.now e ≡ false }
     ensures { NeighbourFound (layer_of size bitmap.now) (next_kept (layer_of size bitmap.now) table.now e) (gap_after (layer_of size bitmap.now) table.now e) result }
 {
     let mut at = e;
@@ -37,7 +37,7 @@ pub fn kept_after(size: Size, bitmap: &[u8], table: &[u16], e: Edge) -> EdgeEnd
 // The kept stick before e, by the walk back.
 pub fn kept_before(size: Size, bitmap: &[u8], table: &[u16], e: Edge) -> EdgeEnd
     requires lent_at { LentAt (layer_of size bitmap.now) table.now e }
-    requires e_value { removed_at (layer_of size bitmap.now) table.now e ≡ false }
+    requires not_removed { removed_at (layer_of size bitmap.now) table.now e ≡ false }
     ensures { NeighbourFound (layer_of size bitmap.now) (previous_kept (layer_of size bitmap.now) table.now e) (gap_before (layer_of size bitmap.now) table.now e) result }
 {
     let mut at = e;

@@ -157,8 +157,8 @@ pub fn remove(
 // A pin: question 9 alone, whatever the samples are. The entry keeps the offset.
 pub fn pin(size: Size, table: &mut [u16], place: usize, stick: Named) -> Answer
     requires { Exact size table.old }
-    ensures by_index { (bitmap : List ℕ) → result ≡ pin_answer (layer_of size bitmap) table.old place stick }
-    ensures by_index_2 { (bitmap : List ℕ) → table.new ≡ stored_if result table.old (pinned (layer_of size bitmap) table.old (edge_named stick)) }
+    ensures answered { (bitmap : List ℕ) → result ≡ pin_answer (layer_of size bitmap) table.old place stick }
+    ensures stored { (bitmap : List ℕ) → table.new ≡ stored_if result table.old (pinned (layer_of size bitmap) table.old (edge_named stick)) }
 {
     if !carries_kept(size, table, stick) {
         return Answer::No(Refusal::NoKeptVertex, place);

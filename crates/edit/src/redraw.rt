@@ -45,8 +45,8 @@ pub fn within_all(size: Size, bitmap: &[u8], table: &[u16], t: u8, c: Chord) -> 
 
 // The same of the two edges that a slide redraws.
 pub fn crosses_both(size: Size, bitmap: &[u8], into: Chord, out: Chord) -> bool
-    requires chord_on { ChordOn (layer_of size bitmap.now) into }
-    requires chord_on_2 { ChordOn (layer_of size bitmap.now) out }
+    requires into_on { ChordOn (layer_of size bitmap.now) into }
+    requires out_on { ChordOn (layer_of size bitmap.now) out }
     ensures { result ≡ (crosses_chord (layer_of size bitmap.now) into && crosses_chord (layer_of size bitmap.now) out) }
 {
     if !crosses_all(size, bitmap, into) {

@@ -63,7 +63,7 @@ pub fn edge_count(size: Size) -> usize
 
 pub fn number_of(size: Size, e: Edge) -> usize
     requires sized { Sized size }
-    requires e_value { in_grid size e ≡ true }
+    requires within { in_grid size e ≡ true }
     ensures { result ≡ number size e }
 {
     kind_start(size, e.vertical) + (e.row * edge_columns(size, e.vertical) + e.column)

@@ -35,9 +35,9 @@ abbrev pub bar : Layer
 bar = layer_of (size_of 5 3) (0 ∷ 14 ∷ 0 ∷ [])
 
 abbrev pub bar_table : ℕ → ℕ → List ℕ
-bar_table lowerMiddle corners =
+bar_table lower_middle corners =
     0 ∷ 0 ∷ 0 ∷ 0 ∷ 128 ∷ 0 ∷ 0 ∷ 128 ∷ 0 ∷ 0 ∷ 0 ∷ 0 ∷
-    0 ∷ corners ∷ lowerMiddle ∷ corners ∷ 0 ∷ 0 ∷ corners ∷ 128 ∷ corners ∷ 0 ∷ []
+    0 ∷ corners ∷ lower_middle ∷ corners ∷ 0 ∷ 0 ∷ corners ∷ 128 ∷ corners ∷ 0 ∷ []
 
 -- W 4, H 4, inside (1,1), (2,2), and the other diagonal
 abbrev pub diagonal : Layer

@@ -12,7 +12,7 @@ use grid::{Edge, Size};
 // Whether the drawn edge that starts at the kept vertex of stick e crosses every removed stick up to its end.
 pub fn held_at(size: Size, bitmap: &[u8], table: &[u16], e: Edge) -> bool
     requires lent_at { LentAt (layer_of size bitmap.now) table.now e }
-    requires e_value { kept_at (layer_of size bitmap.now) table.now e ≡ true }
+    requires kept { kept_at (layer_of size bitmap.now) table.now e ≡ true }
     ensures { result ≡ edge_crosses (layer_of size bitmap.now) table.now e }
 {
     let end = kept_after(size, bitmap, table, e);

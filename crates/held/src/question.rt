@@ -36,7 +36,7 @@ fn ask_contours(size: Size, bitmap: &[u8], table: &[u16], set: &EdgeSet) -> Answ
 // walk for question 7 is made only if 15 is answered no.
 fn ask_kept(size: Size, bitmap: &[u8], table: &[u16], set: &EdgeSet) -> Answer
     requires lent { Lent (layer_of size bitmap.now) table.now }
-    requires table_value { entries_answer (layer_of size bitmap.now) table.now ≡ Yes }
+    requires entries_right { entries_answer (layer_of size bitmap.now) table.now ≡ Yes }
     requires first_set { FirstSet (layer_of size bitmap.now) set.now }
     ensures { result ≡ first_no (held_answer (layer_of size bitmap.now) table.now ∷ all_kept_answer size table.now ∷ []) }
 {

@@ -78,7 +78,7 @@ pub fn next_nested(
     requires first_set { FirstSet (layer_of size bitmap.now) firsts.now }
     requires bore_set { BoreSet (layer_of size bitmap.now) bores.now }
     requires nested_at { NestedAt (layer_of size bitmap.now) here }
-    requires more_value { here.at.more ≡ true }
+    requires more { here.at.more ≡ true }
     ensures { MovedNested (layer_of size bitmap.now) here result }
 {
     let next = next_contour(size, bitmap, firsts, here.at);

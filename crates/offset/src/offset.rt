@@ -33,8 +33,8 @@ fn nearest_div(n: i64, d: i64) -> i64
 
 // How far q is from p across the line of e, with its sign.
 fn spread_of(p: Position, q: Position, e: Edge) -> i64
-    requires near { Near p }
-    requires near_2 { Near q }
+    requires p_near { Near p }
+    requires q_near { Near q }
     ensures value { result ≡ spread p q e }
     ensures result_bound { nat_abs result ≤ 524288 }
 {
@@ -43,8 +43,8 @@ fn spread_of(p: Position, q: Position, e: Edge) -> i64
 
 // How far the segment from p to q meets the line of e from the old offset, multiplied by the spread.
 fn shift_of(p: Position, q: Position, e: Edge, old: u8) -> i64
-    requires near { Near p }
-    requires near_2 { Near q }
+    requires p_near { Near p }
+    requires q_near { Near q }
     requires near_edge { NearEdge e }
     ensures value { result ≡ shift p q e old }
     ensures result_bound { nat_abs result ≤ 2 ^ 40 }

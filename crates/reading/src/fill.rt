@@ -53,7 +53,7 @@ fn store_vertices(
     first: Edge,
 ) -> usize
     requires lent_at { LentAt (layer_of size bitmap.now) table.old first }
-    requires first_in_bounds { i + 2 * length (contour_of (layer_of size bitmap.now) first) ≤ length sheet.now }
+    requires room { i + 2 * length (contour_of (layer_of size bitmap.now) first) ≤ length sheet.now }
     ensures { reading_at result table.new ≡ store_contour (layer_of size bitmap.now) sheet.now first (reading_at i table.old) }
 {
     let mut e = first;
@@ -72,8 +72,8 @@ fn store_vertices(
 // Stores the vertices of all contours, from the set of first sticks.
 fn store_contours(size: Size, bitmap: &[u8], table: &mut [u16], sheet: &[u8], set: &EdgeSet)
     requires first_set { FirstSet (layer_of size bitmap.now) set.now }
-    requires sheet_value { sheet_answer (layer_of size bitmap.now) sheet.now ≡ Yes }
-    requires table_value { table.old ≡ no_entries (layer_of size bitmap.now) }
+    requires formed { sheet_answer (layer_of size bitmap.now) sheet.now ≡ Yes }
+    requires empty { table.old ≡ no_entries (layer_of size bitmap.now) }
     ensures { table.new ≡ described (layer_of size bitmap.now) sheet.now }
 {
     let mut place: usize = SIZE_BYTES;
@@ -88,7 +88,7 @@ fn store_contours(size: Size, bitmap: &[u8], table: &mut [u16], sheet: &[u8], se
 // Writes the table that the sheet describes, from the set of first sticks.
 pub fn fill_table(size: Size, bitmap: &[u8], table: &mut [u16], sheet: &[u8], set: &EdgeSet)
     requires first_set { FirstSet (layer_of size bitmap.now) set.now }
-    requires sheet_value { sheet_answer (layer_of size bitmap.now) sheet.now ≡ Yes }
+    requires formed { sheet_answer (layer_of size bitmap.now) sheet.now ≡ Yes }
     requires table_len { length table.old ≡ edge_count size }
     ensures { table.new ≡ described (layer_of size bitmap.now) sheet.now }
 {

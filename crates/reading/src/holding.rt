@@ -59,7 +59,7 @@ pub struct EdgeEnd {
 fn kept_after(size: Size, bitmap: &[u8], sheet: &[u8], first: Vertex, v: Vertex) -> EdgeEnd
     requires vertices_stand { VerticesStand (layer_of size bitmap.now) sheet.now first }
     requires vertex_expected { VertexExpected (layer_of size bitmap.now) first v }
-    requires stick_value { removed_at (layer_of size bitmap.now) (described (layer_of size bitmap.now) sheet.now) v.stick ≡ false }
+    requires not_removed { removed_at (layer_of size bitmap.now) (described (layer_of size bitmap.now) sheet.now) v.stick ≡ false }
     ensures { EndsAt (layer_of size bitmap.now) sheet.now first v result }
 {
     let mut at = v;
@@ -89,7 +89,7 @@ fn position_from(sheet: &[u8], v: Vertex) -> Position
 fn held_edge(size: Size, bitmap: &[u8], sheet: &[u8], first: Vertex, v: Vertex) -> bool
     requires vertices_stand { VerticesStand (layer_of size bitmap.now) sheet.now first }
     requires vertex_expected { VertexExpected (layer_of size bitmap.now) first v }
-    requires stick_value { kept_at (layer_of size bitmap.now) (described (layer_of size bitmap.now) sheet.now) v.stick ≡ true }
+    requires kept { kept_at (layer_of size bitmap.now) (described (layer_of size bitmap.now) sheet.now) v.stick ≡ true }
     ensures { result ≡ edge_crosses (layer_of size bitmap.now) (described (layer_of size bitmap.now) sheet.now) v.stick }
 {
     let end = kept_after(size, bitmap, sheet, first, v);
@@ -142,7 +142,7 @@ fn held_contour(size: Size, bitmap: &[u8], sheet: &[u8], first: Vertex) -> Check
 // Question 7, from the set of first sticks.
 pub fn ask_described(size: Size, bitmap: &[u8], sheet: &[u8], set: &EdgeSet) -> Answer
     requires first_set { FirstSet (layer_of size bitmap.now) set.now }
-    requires sheet_value { sheet_answer (layer_of size bitmap.now) sheet.now ≡ Yes }
+    requires formed { sheet_answer (layer_of size bitmap.now) sheet.now ≡ Yes }
     ensures { result ≡ held_answer (layer_of size bitmap.now) (described (layer_of size bitmap.now) sheet.now) }
 {
     let mut place: usize = SIZE_BYTES;

@@ -18,7 +18,7 @@ const APART: usize = 64;
 pub fn put_marks(size: Size, bitmap: &[u8], first: Edge, n: usize, marks: &mut [u32; PLACES])
     requires has_sticks { HasSticks (layer_of size bitmap.now) first n }
     requires marks_len { length marks.old ≡ mark_places }
-    ensures marks_len_2 { length marks.new ≡ mark_places }
+    ensures same_room { length marks.new ≡ mark_places }
     ensures marked_along { MarkedAlong (layer_of size bitmap.now) first marks.new }
 {
     let mut at = first;

@@ -22,8 +22,8 @@ fn chord_passes(
     u: Edge,
 ) -> bool
     requires lent_at { LentAt (layer_of size bitmap.now) table.now u }
-    requires near { Near p }
-    requires near_2 { Near q }
+    requires p_near { Near p }
+    requires q_near { Near q }
     ensures { result ≡ chord_passes (layer_of size bitmap.now) table.now t p q u }
 {
     if !crosses_stick(p, q, u) {

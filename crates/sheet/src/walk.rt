@@ -24,7 +24,7 @@ fn put_vertices(
     first: Edge,
 ) -> usize
     requires lent_at { LentAt (layer_of size bitmap.now) table.now first }
-    requires first_in_bounds { start + length (contour_vertices (layer_of size bitmap.now) table.now first) ≤ length sheet.old }
+    requires room { start + length (contour_vertices (layer_of size bitmap.now) table.now first) ≤ length sheet.old }
     ensures { Stored sheet.old start (contour_vertices (layer_of size bitmap.now) table.now first) sheet.new result }
 {
     let mut e = first;
@@ -49,7 +49,7 @@ fn put_contour(
     first: Edge,
 ) -> usize
     requires lent_at { LentAt (layer_of size bitmap.now) table.now first }
-    requires first_in_bounds { at + length (contour_bytes (layer_of size bitmap.now) table.now first) ≤ length sheet.old }
+    requires room { at + length (contour_bytes (layer_of size bitmap.now) table.now first) ≤ length sheet.old }
     ensures { Stored sheet.old at (contour_bytes (layer_of size bitmap.now) table.now first) sheet.new result }
 {
     put_first(sheet, at, first);
@@ -67,7 +67,7 @@ pub fn put_contours(
 ) -> usize
     requires lent { Lent (layer_of size bitmap.now) table.now }
     requires first_set { FirstSet (layer_of size bitmap.now) set.now }
-    requires table_in_bounds { start + length (all_contours (layer_of size bitmap.now) table.now) ≤ length sheet.old }
+    requires room { start + length (all_contours (layer_of size bitmap.now) table.now) ≤ length sheet.old }
     ensures { Stored sheet.old start (all_contours (layer_of size bitmap.now) table.now) sheet.new result }
 {
     let mut place = start;

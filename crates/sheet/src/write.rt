@@ -38,7 +38,7 @@ fn sheet_length(size: Size, bitmap: &[u8], set: &EdgeSet) -> usize
 fn put_sheet(size: Size, bitmap: &[u8], table: &[u16], set: &EdgeSet, sheet: &mut [u8])
     requires lent { Lent (layer_of size bitmap.now) table.now }
     requires first_set { FirstSet (layer_of size bitmap.now) set.now }
-    requires table_in_bounds { length (sheet_of (layer_of size bitmap.now) table.now) ≤ length sheet.old }
+    requires room { length (sheet_of (layer_of size bitmap.now) table.now) ≤ length sheet.old }
     ensures { sheet.new ≡ sets sheet.old 0 (sheet_of (layer_of size bitmap.now) table.now) }
 {
     put_size(sheet, size);
@@ -48,7 +48,7 @@ fn put_sheet(size: Size, bitmap: &[u8], table: &[u16], set: &EdgeSet, sheet: &mu
 
 // Writes the sheet of a layer that passed questions 1 to 7, if the output is long enough.
 fn write_held(size: Size, bitmap: &[u8], table: &[u16], set: &EdgeSet, sheet: &mut [u8]) -> Written
-    requires table_value { first_no (held_questions (layer_of size bitmap.now) table.now) ≡ Yes }
+    requires held { first_no (held_questions (layer_of size bitmap.now) table.now) ≡ Yes }
     requires first_set { FirstSet (layer_of size bitmap.now) set.now }
     ensures { outcome result sheet.new ≡ write_of (layer_of size bitmap.now) table.now sheet.old }
 {

@@ -12,8 +12,8 @@ use grid::{Edge, Size};
 
 // What a drawn edge from p to q adds.
 pub fn cross_of(p: Position, q: Position) -> i64
-    requires near { Near p }
-    requires near_2 { Near q }
+    requires p_near { Near p }
+    requires q_near { Near q }
     ensures value { result ≡ cross p q }
     ensures result_bound { nat_abs result ≤ 2 ^ 37 }
 {
@@ -23,7 +23,7 @@ pub fn cross_of(p: Position, q: Position) -> i64
 // What the drawn edge that starts at the kept vertex of e adds. Its gap is walked once.
 pub fn edge_adds(size: Size, bitmap: &[u8], table: &[u16], e: Edge) -> i64
     requires held_stick { HeldStick (layer_of size bitmap.now) table.now e }
-    requires e_value { kept_at (layer_of size bitmap.now) table.now e ≡ true }
+    requires kept { kept_at (layer_of size bitmap.now) table.now e ≡ true }
     ensures value { result ≡ edge_adds (layer_of size bitmap.now) table.now (drawn_from (layer_of size bitmap.now) table.now e) }
     ensures result_bound { nat_abs result ≤ 2 ^ 37 }
 {

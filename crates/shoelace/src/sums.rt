@@ -122,7 +122,7 @@ fn sums_of_kind(
 // Stores the sum after each drawn edge, and gives the last one, 0 if there is none: horizontal edges have the lower numbers.
 pub fn put_sums(size: Size, bitmap: &[u8], table: &[u16], sums: &mut [i64]) -> i64
     requires accepted { Accepted (layer_of size bitmap.now) table.now }
-    requires table_in_bounds { drawn_count (layer_of size bitmap.now) table.now ≤ length sums.old }
+    requires room { drawn_count (layer_of size bitmap.now) table.now ≤ length sums.old }
     ensures { AllSummed (layer_of size bitmap.now) table.now sums.old sums.new result }
 {
     let none = Running { sum: 0, edges: 0 };

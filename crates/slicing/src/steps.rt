@@ -43,8 +43,8 @@ fn refine(w: u16, h: u16, bitmap: &[u8], table: &mut [u16])
 
 // Writes the sheet of a layer that passes questions 1 to 7, to an output that holds it.
 fn write(w: u16, h: u16, bitmap: &[u8], table: &[u16], output: &mut [u8]) -> usize
-    requires table_value { first_no (held_questions (layer_of (size_of w h) bitmap.now) table.now) ≡ Yes }
-    requires table_in_bounds { length (sheet_of (layer_of (size_of w h) bitmap.now) table.now) ≤ length output.old }
+    requires held { first_no (held_questions (layer_of (size_of w h) bitmap.now) table.now) ≡ Yes }
+    requires room { length (sheet_of (layer_of (size_of w h) bitmap.now) table.now) ≤ length output.old }
     ensures { outcome result output.new ≡ stored output.old (sheet_of (layer_of (size_of w h) bitmap.now) table.now) }
 {
     let written = sheet::write_sheet(w, h, bitmap, table, output);
@@ -56,8 +56,8 @@ fn write(w: u16, h: u16, bitmap: &[u8], table: &[u16], output: &mut [u8]) -> usi
 
 // The answer to a layer, by the table that it is traced in.
 fn slice_in(w: u16, h: u16, bitmap: &[u8], table: &mut [u16], output: &mut [u8]) -> usize
-    requires h_value { sides_fit (size_of w h) ≡ true }
-    requires answer_limit_in_bounds { answer_limit ≤ length output.old }
+    requires fits { sides_fit (size_of w h) ≡ true }
+    requires room { answer_limit ≤ length output.old }
     ensures { outcome result output.new ≡ stored output.old (bytes_in (layer_of (size_of w h) bitmap.now) table.old) }
 {
     let traced = trace::trace(w, h, bitmap, table);
@@ -83,8 +83,8 @@ fn entry_count(w: u16, h: u16) -> usize
 
 // The answer to a layer.
 pub fn slice_layer(w: u16, h: u16, bitmap: &[u8], output: &mut [u8]) -> usize
-    requires h_value { sides_fit (size_of w h) ≡ true }
-    requires answer_limit_in_bounds { answer_limit ≤ length output.old }
+    requires fits { sides_fit (size_of w h) ≡ true }
+    requires room { answer_limit ≤ length output.old }
     ensures { outcome result output.new ≡ stored output.old (layer_bytes (layer_of (size_of w h) bitmap.now)) }
 {
     let n = entry_count(w, h);

@@ -35,49 +35,49 @@ unfolding smooth
 smooth-is L limit t = refl
 
 -- how passes go on: what a loop over them cites
-module _ (onePass : List ℕ → Pass) (vertices : ℕ) where
+module _ (one_pass : List ℕ → Pass) (vertices : ℕ) where
   pub further-is : (s : Smoothed)
-      → let p : Pass = onePass s.table in
-      further onePass vertices s ≡ record { table = p.table; passes = s.passes + 1; total = p.total; settled = is_settled p.total vertices }
+      → let p : Pass = one_pass s.table in
+      further one_pass vertices s ≡ record { table = p.table; passes = s.passes + 1; total = p.total; settled = is_settled p.total vertices }
   unfolding further
   further-is s = refl
 
-  pub until_none : (s : Smoothed) → until onePass vertices 0 s ≡ s
+  pub until_none : (s : Smoothed) → until one_pass vertices 0 s ≡ s
   unfolding until
   until_none s = refl
 
   -- a step of it, by whether the contour is settled
   by-settled : ℕ → Smoothed → Bool → Smoothed
-  by-settled n s b = elim b [ true ↦ s | false ↦ until onePass vertices n (further onePass vertices s) ]
+  by-settled n s b = elim b [ true ↦ s | false ↦ until one_pass vertices n (further one_pass vertices s) ]
 
-  pub until-settled : (n : ℕ) (s : Smoothed) → s.settled ≡ true → until onePass vertices n s ≡ s
+  pub until-settled : (n : ℕ) (s : Smoothed) → s.settled ≡ true → until one_pass vertices n s ≡ s
   unfolding until by-settled
   until-settled zero s y = refl
   until-settled (suc n) s y = ap (by-settled n s) y
 
   pub until-more : (n : ℕ) (s : Smoothed) → s.settled ≡ false
-      → until onePass vertices (suc n) s ≡ until onePass vertices n (further onePass vertices s)
+      → until one_pass vertices (suc n) s ≡ until one_pass vertices n (further one_pass vertices s)
   unfolding until by-settled
   until-more n s y = ap (by-settled n s) y
 
   -- "until the limit": no pass beyond it, and all of them unless it is settled
   until-passes : (n : ℕ) (s : Smoothed)
-      → let r : Smoothed = until onePass vertices n s in (r.passes ≤ s.passes + n) × (r.settled ≡ false → r.passes ≡ s.passes + n)
+      → let r : Smoothed = until one_pass vertices n s in (r.passes ≤ s.passes + n) × (r.settled ≡ false → r.passes ≡ s.passes + n)
   until-passes zero s = rw (until_none s) (omega arith, λ y. omega arith)
   until-passes (suc n) s = both-sides s.settled
       (λ y. rw (until-settled (suc n) s y) (omega arith, λ no_more. absurd (true≢false (sym y ∙ no_more))))
       (λ y.
-      let later = until-passes n (further onePass vertices s) in
-      let one : (further onePass vertices s).passes ≡ s.passes + 1 = ap (λ (r : Smoothed). r.passes) (further-is s) in
+      let later = until-passes n (further one_pass vertices s) in
+      let one : (further one_pass vertices s).passes ≡ s.passes + 1 = ap (λ (r : Smoothed). r.passes) (further-is s) in
       rw (until-more n s y) (omega (arith, later.0), λ no_more. omega (arith, later.1 no_more)))
 
   -- what each pass keeps, all of them keep
-  pub until-keeps : (P : Smoothed → Type 0) → ((s : Smoothed) → P s → P (further onePass vertices s)) → (n : ℕ) (s : Smoothed) → P s
-      → P (until onePass vertices n s)
+  pub until-keeps : (P : Smoothed → Type 0) → ((s : Smoothed) → P s → P (further one_pass vertices s)) → (n : ℕ) (s : Smoothed) → P s
+      → P (until one_pass vertices n s)
   until-keeps P keeps zero s h = rw (until_none s) h
   until-keeps P keeps (suc n) s h = both-sides s.settled
       (λ y. rw (until-settled (suc n) s y) h)
-      (λ y. rw (until-more n s y) (until-keeps P keeps n (further onePass vertices s) (keeps s h)))
+      (λ y. rw (until-more n s y) (until-keeps P keeps n (further one_pass vertices s) (keeps s h)))
 
 -- passes that do the same on tables with a property, which they keep, are the same to the end
 pub until-same : {F G : List ℕ → Pass} (vertices : ℕ) (P : List ℕ → Type 0) → ((t : List ℕ) → P t → F t ≡ G t)

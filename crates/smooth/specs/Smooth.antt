@@ -65,12 +65,12 @@ pub record Smoothed : Type 0 where
   pub settled : Bool
 
 -- Passes one after the other, by what a pass does to a table and how many vertices it visits
-module _ (onePass : List ℕ → Pass) (vertices : ℕ) where
+module _ (one_pass : List ℕ → Pass) (vertices : ℕ) where
   -- one pass more
   unfoldable pub further : Smoothed → Smoothed
   unfolding is_settled
   further s =
-      let p : Pass = onePass s.table in
+      let p : Pass = one_pass s.table in
       record { table = p.table; passes = s.passes + 1; total = p.total; settled = is_settled p.total vertices }
 
   -- "Otherwise it goes on until the limit": at most n passes more. "settled wins if both hold"

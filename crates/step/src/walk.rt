@@ -11,7 +11,7 @@ use grid::{Edge, Size, is_inside};
 // Whether the contour crosses the stick to the north or to the east.
 fn is_upward(size: Size, bitmap: &[u8], e: Edge) -> bool
     requires sound { Sound (layer_of size bitmap.now) }
-    requires e_value { is_stick (layer_of size bitmap.now) e ≡ true }
+    requires stick { is_stick (layer_of size bitmap.now) e ≡ true }
     ensures { result ≡ upward (layer_of size bitmap.now) e }
 {
     let inside = is_inside(size, bitmap, e.column, e.row);
@@ -21,7 +21,7 @@ fn is_upward(size: Size, bitmap: &[u8], e: Edge) -> bool
 // The successor of a stick on its contour: where the contour leaves the cell ahead.
 pub fn next_stick(size: Size, bitmap: &[u8], e: Edge) -> Edge
     requires sound { Sound (layer_of size bitmap.now) }
-    requires e_value { is_stick (layer_of size bitmap.now) e ≡ true }
+    requires stick { is_stick (layer_of size bitmap.now) e ≡ true }
     ensures { result ≡ next (layer_of size bitmap.now) e }
 {
     let upper = is_upward(size, bitmap, e);
@@ -45,7 +45,7 @@ pub fn next_stick(size: Size, bitmap: &[u8], e: Edge) -> Edge
 // The predecessor of a stick on its contour: where the contour walked back leaves the cell behind.
 pub fn previous_stick(size: Size, bitmap: &[u8], e: Edge) -> Edge
     requires sound { Sound (layer_of size bitmap.now) }
-    requires e_value { is_stick (layer_of size bitmap.now) e ≡ true }
+    requires stick { is_stick (layer_of size bitmap.now) e ≡ true }
     ensures { result ≡ prev (layer_of size bitmap.now) e }
 {
     let upper = is_upward(size, bitmap, e);

@@ -29,7 +29,7 @@ offset_bounds-areas-place c =
 pub bounds-areas-place : goal.bounds-areas-place
 bounds-areas-place c =
     let given = c.requires in
-    measured-room c.loop-at.invariant given.first_set c.loop-at-test.true given.table_in_bounds
+    measured-room c.loop-at.invariant given.first_set c.loop-at-test.true given.room
 
 pub overflow_add-place : goal.overflow_add-place
 overflow_add-place c =
@@ -39,7 +39,7 @@ overflow_add-place c =
 
 pub next_contour-at-requires : goal.next_contour-at-requires
 next_contour-at-requires c =
-    record { first_set = c.requires.first_set; placed = c.loop-at.invariant.placed; more_value = c.loop-at-test.true }
+    record { first_set = c.requires.first_set; placed = c.loop-at.invariant.placed; more = c.loop-at-test.true }
 
 pub loop-at-smaller : goal.loop-at-smaller
 loop-at-smaller c = fewer c.next_contour-at.ensures.left

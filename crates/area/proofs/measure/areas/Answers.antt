@@ -12,7 +12,7 @@ pub measure_held-requires : goal.measure_held-requires
 measure_held-requires c =
     let asked = c.ask_held_firsts-answer.ensures in
     let yes = c.in-Yes.is in
-    record { table_value = sym asked.value ∙ yes; first_set = asked.first_set yes }
+    record { held = sym asked.value ∙ yes; first_set = asked.first_set yes }
 
 pub returns-in-No : goal.returns-in-No
 returns-in-No c =

@@ -1,5 +1,5 @@
 -- `contour_area` meets its contract. The invariant: what is summed, what the drawn edge that leads on from the last kept vertex adds, and what those that
--- start later add make the whole. `start` is where the call began, `work` what a turn does.
+-- start later add make the whole.
 use mathlib.Core.Path.{sym, ap, ◌∙◌}
 use mathlib.Core.Bool.{true≢false}
 use Prim.Native.Nat.{◌^◌, ◌≤◌}
@@ -24,7 +24,7 @@ pub vertex_at-here-requires : goal.vertex_at-here-requires
 vertex_at-here-requires c = has-entry (summed-here c.requires c.loop-here.invariant)
 
 pub cross_of-area-requires : goal.cross_of-area-requires
-cross_of-area-requires c = record { near = c.loop-here.invariant.summed.last_near; near_2 = c.vertex_at-here.ensures.near }
+cross_of-area-requires c = record { p_near = c.loop-here.invariant.summed.last_near; q_near = c.vertex_at-here.ensures.near }
 
 pub overflow_add-area : goal.overflow_add-area
 overflow_add-area c =
@@ -33,7 +33,7 @@ overflow_add-area c =
     let so_far = small in in-range (search sized depth 9) tt
 
 pub next_stick-e-requires : goal.next_stick-e-requires
-next_stick-e-requires c = let given = summed-here c.requires c.loop-here.invariant in record { sound = given.sound; e_value = given.stick }
+next_stick-e-requires c = let given = summed-here c.requires c.loop-here.invariant in record { sound = given.sound; stick = given.stick }
 
 pub loop-here-smaller : goal.loop-here-smaller
 loop-here-smaller c =
@@ -86,7 +86,7 @@ cross_of-requires c =
     Closing (layer_of a.size a.bitmap.now) a.table.now a.first (to_z w64 c.if-is_kept.area-bits) c.if-is_kept.trail) =
     summed-end c.requires c.loop-here.invariant c.next_stick-e.ensures turned
     (sym c.same_edge.ensures ∙ c.if-same_edge.true) in
-    record { near = closing.last_near; near_2 = closing.begin_near }
+    record { p_near = closing.last_near; q_near = closing.begin_near }
 
 pub overflow_add-result : goal.overflow_add-result
 unfolding kept_at offset_at

@@ -21,4 +21,4 @@ loop-word-preserved c =
 pub returns : goal.returns
 returns c =
     c.loop-word.invariant.so_far
-    ∙ sym (count_past (has c.args.set.now) (c.loop-word.word * 64) set_bits (omega (arith, c.loop-word.invariant.within)) (λ n l _. c.requires.by_index n (omega arith)))
+    ∙ sym (count_past (has c.args.set.now) (c.loop-word.word * 64) set_bits (omega (arith, c.loop-word.invariant.within)) (λ n l _. c.requires.none_above n (omega arith)))

@@ -10,13 +10,13 @@ loop-left-init c =
 
 pub next_stick-at-requires : goal.next_stick-at-requires
 next_stick-at-requires c =
-    record { sound = c.requires.sound; e_value = c.loop-left.invariant.stick }
+    record { sound = c.requires.sound; stick = c.loop-left.invariant.stick }
 
 pub crosses_stick-requires : goal.crosses_stick-requires
 crosses_stick-requires c =
     let given = c.requires in
     let stick = on-next given.sound _ c.loop-left.invariant.stick c.next_stick-at.ensures in
-    record { near = given.p_near; near_2 = given.q_near; near_edge = stick-near _ given.sound _ stick }
+    record { p_near = given.p_near; q_near = given.q_near; near_edge = stick-near _ given.sound _ stick }
 
 pub returns-then-not-crosses_stick : goal.returns-then-not-crosses_stick
 returns-then-not-crosses_stick c =

@@ -10,7 +10,7 @@ use Rattle.contour.proofs.count.contours_in.Goals as goal
 pub member_count-requires : goal.member_count-requires
 member_count-requires c =
     let a = c.args in
-    record { set_len = (counted-below (layer_of a.size a.bitmap.now) c.requires.sound a.set.now c.requires _ c.kind_start.ensures).0; end_le_set_bits = (counted-below (layer_of a.size a.bitmap.now) c.requires.sound a.set.now c.requires _ c.kind_start.ensures).1.0; by_index = (counted-below (layer_of a.size a.bitmap.now) c.requires.sound a.set.now c.requires _ c.kind_start.ensures).1.1 }
+    record { set_len = (counted-below (layer_of a.size a.bitmap.now) c.requires.sound a.set.now c.requires _ c.kind_start.ensures).0; end_le_set_bits = (counted-below (layer_of a.size a.bitmap.now) c.requires.sound a.set.now c.requires _ c.kind_start.ensures).1.0; none_above = (counted-below (layer_of a.size a.bitmap.now) c.requires.sound a.set.now c.requires _ c.kind_start.ensures).1.1 }
 
 pub returns : goal.returns
 returns c =

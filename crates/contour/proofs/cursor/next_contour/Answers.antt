@@ -11,9 +11,9 @@ overflow_add-at c =
 pub cursor_from-requires : goal.cursor_from-requires
 cursor_from-requires c =
     let given = c.requires in
-    record { first_set = given.first_set; from_bound = next-within given.placed given.more_value }
+    record { first_set = given.first_set; from_bound = next-within given.placed given.more }
 
 pub returns : goal.returns
 returns c =
     let given = c.requires in
-    moved given.first_set given.placed given.more_value c.cursor_from.ensures
+    moved given.first_set given.placed given.more c.cursor_from.ensures

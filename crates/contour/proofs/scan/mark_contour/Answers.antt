@@ -33,7 +33,7 @@ insert-requires c =
 
 pub next_stick-e-requires : goal.next_stick-e-requires
 next_stick-e-requires c =
-    let sound = c.requires.sound in record { sound = sound; e_value = marks-stick sound c.loop-e.invariant }
+    let sound = c.requires.sound in record { sound = sound; stick = marks-stick sound c.loop-e.invariant }
 
 pub loop-e-smaller : goal.loop-e-smaller
 loop-e-smaller c =

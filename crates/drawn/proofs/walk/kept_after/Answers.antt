@@ -1,5 +1,5 @@
 -- `kept_after` meets its contract. The invariant: the walk from e has passed only removed sticks, fewer than its contour has sticks.
--- `given` and `entry` say what is known at the loop and of the stick after the step; the walk's laws are those of GapWalk.
+-- `given` is what the call asks; the walk's laws are those of GapWalk.
 use mathlib.Core.Path.{◌≡◌, sym, ap, ◌∙◌}
 use Prim.Native.Nat.{◌<◌}
 use native.Mathlib.Omega.{arith}
@@ -17,7 +17,7 @@ loop-size-init c = let given = c.requires.lent_at in passed_start _ (forth _ giv
 pub next_stick-at-requires : goal.next_stick-at-requires
 next_stick-at-requires c =
     let given = c.requires.lent_at in
-    record { sound = given.sound; e_value = passed_here _ (forth _ given.sound) given.stick c.loop-size.invariant }
+    record { sound = given.sound; stick = passed_here _ (forth _ given.sound) given.stick c.loop-size.invariant }
 
 pub entry_at-requires : goal.entry_at-requires
 entry_at-requires c =
@@ -49,7 +49,7 @@ loop-size-preserved c =
     removed_at (layer_of a.size a.bitmap.now) a.table.now c.next_stick-at.result ≡ c.is_removed.result) =
     sym (c.is_removed.ensures ∙ ap is_removed c.entry_at.ensures) in
     let given = c.requires.lent_at in
-    passed-turn _ (forth _ given.sound) given.stick c.loop-size.invariant c.next_stick-at.ensures c.requires.e_value
+    passed-turn _ (forth _ given.sound) given.stick c.loop-size.invariant c.next_stick-at.ensures c.requires.not_removed
     (removed-is ∙ c.if-not-is_removed.false)
 
 pub returns : goal.returns

@@ -1,4 +1,4 @@
--- `ask_removal` meets its contract. `unpinned` is question 16 answered yes, from which the rest goes on; `laid` is the joined edge.
+-- `ask_removal` meets its contract. `unpinned` is question 16 answered yes, from which the rest goes on.
 use mathlib.Core.Path.{◌≡◌, sym, ◌∙◌}
 use mathlib.Core.Bool.{true, true≢false}
 use Rattle.grid.specs.Layer.{layer_of}

@@ -3,7 +3,7 @@ use Rattle.edit.proofs.Redrawn.{walk_from, editable-after}
 use Rattle.edit.proofs.edit.leaves_three.Goals as goal
 
 pub kept_after-after-requires : goal.kept_after-after-requires
-kept_after-after-requires c = record { lent_at = (walk_from c.requires).0; e_value = (walk_from c.requires).1 }
+kept_after-after-requires c = record { lent_at = (walk_from c.requires).0; not_removed = (walk_from c.requires).1 }
 
 pub returns-then-same_edge : goal.returns-then-same_edge
 returns-then-same_edge c =
@@ -11,7 +11,7 @@ returns-then-same_edge c =
 
 pub kept_after-third-requires : goal.kept_after-third-requires
 kept_after-third-requires c =
-    record { lent_at = (walk_from (editable-after c.requires c.kept_after-after.ensures.kept)).0; e_value = (walk_from (editable-after c.requires c.kept_after-after.ensures.kept)).1 }
+    record { lent_at = (walk_from (editable-after c.requires c.kept_after-after.ensures.kept)).0; not_removed = (walk_from (editable-after c.requires c.kept_after-after.ensures.kept)).1 }
 
 pub returns : goal.returns
 returns c =

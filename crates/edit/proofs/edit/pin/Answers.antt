@@ -13,10 +13,10 @@ pub returns-then-not-carries_kept : goal.returns-then-not-carries_kept
 returns-then-not-carries_kept c =
     let a = c.args in
     let told = c.carries_kept.ensures in record {
-      by_index = λ bitmap.
+      answered = λ bitmap.
           let L = layer_of a.size bitmap in
           pin-none L a.table.now a.place a.stick (not-kept L a.table.now a.stick told (ap not c.if-not-carries_kept.true));
-      by_index_2 = λ bitmap. refl;
+      stored = λ bitmap. refl;
     }
 
 pub pin-requires : goal.pin-requires
@@ -28,10 +28,10 @@ pub returns : goal.returns
 unfolding offset_at
 returns c =
     let a = c.args in record {
-      by_index = λ bitmap.
+      answered = λ bitmap.
           let L = layer_of a.size bitmap in
           pin-done L a.table.now a.place a.stick
           (is-kept L a.table.now a.stick c.carries_kept.ensures (ap not c.if-not-carries_kept.false));
-      by_index_2 = λ bitmap.
+      stored = λ bitmap.
           c.pin.ensures ∙ ap (λ (e : Edge). pinned (layer_of a.size bitmap) a.table.now e) c.edge_named.ensures;
     }

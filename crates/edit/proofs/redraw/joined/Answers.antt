@@ -5,10 +5,10 @@ use Rattle.edit.proofs.Redrawn.{read_at, walk_from, gaps-small, removal-over}
 use Rattle.edit.proofs.redraw.joined.Goals as goal
 
 pub kept_before-before-requires : goal.kept_before-before-requires
-kept_before-before-requires c = record { lent_at = (walk_from c.requires).0; e_value = (walk_from c.requires).1 }
+kept_before-before-requires c = record { lent_at = (walk_from c.requires).0; not_removed = (walk_from c.requires).1 }
 
 pub kept_after-after-requires : goal.kept_after-after-requires
-kept_after-after-requires c = record { lent_at = (walk_from c.requires).0; e_value = (walk_from c.requires).1 }
+kept_after-after-requires c = record { lent_at = (walk_from c.requires).0; not_removed = (walk_from c.requires).1 }
 
 pub vertex_at-requires : goal.vertex_at-requires
 vertex_at-requires c = read_at c.requires.accepted _ c.kept_before-before.ensures.stick

@@ -4,7 +4,7 @@ use Rattle.edit.proofs.Redrawn.{read_at, walk_from, near-at, inside_of, slide-in
 use Rattle.edit.proofs.redraw.slid_into.Goals as goal
 
 pub kept_before-before-requires : goal.kept_before-before-requires
-kept_before-before-requires c = record { lent_at = (walk_from c.requires.at).0; e_value = (walk_from c.requires.at).1 }
+kept_before-before-requires c = record { lent_at = (walk_from c.requires.at).0; not_removed = (walk_from c.requires.at).1 }
 
 pub vertex_at-requires : goal.vertex_at-requires
 vertex_at-requires c = read_at c.requires.at.accepted _ c.kept_before-before.ensures.stick

@@ -4,7 +4,7 @@ use Rattle.edit.proofs.Redrawn.{read_at, walk_from, near-at, inside_of, slide-ou
 use Rattle.edit.proofs.redraw.slid_out.Goals as goal
 
 pub kept_after-after-requires : goal.kept_after-after-requires
-kept_after-after-requires c = record { lent_at = (walk_from c.requires.at).0; e_value = (walk_from c.requires.at).1 }
+kept_after-after-requires c = record { lent_at = (walk_from c.requires.at).0; not_removed = (walk_from c.requires.at).1 }
 
 pub position_of-requires : goal.position_of-requires
 position_of-requires c = near-at c.requires.at

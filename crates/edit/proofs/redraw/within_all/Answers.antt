@@ -19,7 +19,7 @@ loop-left-init c =
 
 pub next_stick-at-requires : goal.next_stick-at-requires
 next_stick-at-requires c =
-    record { sound = c.requires.laid.sound; e_value = c.loop-left.invariant.stick }
+    record { sound = c.requires.laid.sound; stick = c.loop-left.invariant.stick }
 
 pub entry_at-requires : goal.entry_at-requires
 entry_at-requires c =
@@ -35,7 +35,7 @@ slides_within-requires c =
     is_stick (layer_of a.size a.bitmap.now) c.next_stick-at.result ≡ true) =
     on-next c.requires.laid.sound _ c.loop-left.invariant.stick c.next_stick-at.ensures in
     let laid = c.requires.laid in
-    record { near = laid.p_near; near_2 = laid.q_near; near_edge = stick-near _ laid.sound _ stick-here }
+    record { p_near = laid.p_near; q_near = laid.q_near; near_edge = stick-near _ laid.sound _ stick-here }
 
 pub returns-then-not-slides_within : goal.returns-then-not-slides_within
 unfolding offset_at

@@ -32,7 +32,7 @@ overflow_add-at c =
 pub next_stick-e-requires : goal.next_stick-e-requires
 next_stick-e-requires c =
     let given = c.requires in
-    record { sound = given.sound; e_value = walking-stick given.sound c.loop-size.invariant }
+    record { sound = given.sound; stick = walking-stick given.sound c.loop-size.invariant }
 
 pub loop-size-smaller : goal.loop-size-smaller
 loop-size-smaller c =

@@ -1,4 +1,4 @@
--- `base_of` meets its contract.
+-- `kind_start` meets its contract.
 use native.Mathlib.Omega.{arith}
 use mathlib.Core.Bool.{true}
 use Rattle.grid.proofs.Numbers.{kind-below, edges-small}

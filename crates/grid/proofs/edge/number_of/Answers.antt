@@ -18,7 +18,7 @@ small : (c : After-edge_columns) → number c.args.size c.args.e < 2095104
 small c =
     let a = c.args in
     let given = c.requires in
-    omega (arith, number-below a.size given.sized a.e given.e_value, edges-small a.size given.sized)
+    omega (arith, number-below a.size given.sized a.e given.within, edges-small a.size given.sized)
 
 pub overflow_mul-result : goal.overflow_mul-result
 overflow_mul-result c = omega (arith, is_number c.before, small c.before)

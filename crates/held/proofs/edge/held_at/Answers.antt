@@ -13,7 +13,7 @@ use Rattle.held.proofs.edge.held_at.Goals as goal
 pub kept_after-end-requires : goal.kept_after-end-requires
 kept_after-end-requires c =
     let a = c.args in
-    record { lent_at = c.requires.lent_at; e_value = kept-not-removed (layer_of a.size a.bitmap.now) a.table.now a.e c.requires.e_value }
+    record { lent_at = c.requires.lent_at; not_removed = kept-not-removed (layer_of a.size a.bitmap.now) a.table.now a.e c.requires.kept }
 
 pub vertex_at-p-requires : goal.vertex_at-p-requires
 vertex_at-p-requires c = has-entry c.requires.lent_at

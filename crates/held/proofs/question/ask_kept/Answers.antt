@@ -14,7 +14,7 @@ returns-in-Yes c =
     let t = a.table.now in
     let given = c.requires in
     let yes = c.in-Yes.is in
-    yes ∙ kept-yes L t given.lent.sound given.lent.exact given.table_value (sym c.ask_all_kept-kept.ensures ∙ yes)
+    yes ∙ kept-yes L t given.lent.sound given.lent.exact given.entries_right (sym c.ask_all_kept-kept.ensures ∙ yes)
 
 pub returns-in_default-held : goal.returns-in_default-held
 returns-in_default-held c =

@@ -26,7 +26,7 @@ pub ask_kept-requires : goal.ask_kept-requires
 ask_kept-requires c =
     let a = c.args in
     let six = six-of (layer_of a.size a.bitmap.now) a.table.now (sym c.ask_six-six.ensures ∙ c.in-Yes.is) in
-    record { lent = six.0; table_value = six.1; first_set = c.first_sticks.ensures }
+    record { lent = six.0; entries_right = six.1; first_set = c.first_sticks.ensures }
 
 pub returns : goal.returns
 returns c =

@@ -36,7 +36,7 @@ held_at-requires c =
     let kept_is : (let a = c.args in
     kept_at (layer_of a.size a.bitmap.now) a.table.now c.loop-size.e ≡ c.is_kept.result) =
     sym (c.is_kept.ensures ∙ ap is_kept c.entry_at.ensures) in
-    record { lent_at = here; e_value = kept_is ∙ c.if-is_kept.true }
+    record { lent_at = here; kept = kept_is ∙ c.if-is_kept.true }
 
 pub returns-then-not-held_at : goal.returns-then-not-held_at
 unfolding kept_at
@@ -56,7 +56,7 @@ next_stick-e-requires c =
     let here : (let a = c.args in LentAt (layer_of a.size a.bitmap.now) a.table.now c.loop-size.e) =
     let given = c.requires in
     record { sound = given.sound; exact = given.exact; stick = counted-stick given.sound c.loop-size.invariant } in
-    let given = here in record { sound = given.sound; e_value = given.stick }
+    let given = here in record { sound = given.sound; stick = given.stick }
 
 pub loop-size-smaller : goal.loop-size-smaller
 loop-size-smaller c =

@@ -16,7 +16,7 @@ mark_bore-requires c =
 
 pub next_contour-at-requires : goal.next_contour-at-requires
 next_contour-at-requires c =
-    record { first_set = c.requires.first_set; placed = c.loop-at.invariant.placed; more_value = c.loop-at-test.true }
+    record { first_set = c.requires.first_set; placed = c.loop-at.invariant.placed; more = c.loop-at-test.true }
 
 pub loop-at-smaller : goal.loop-at-smaller
 loop-at-smaller c = fewer c.next_contour-at.ensures.left

@@ -6,7 +6,7 @@ use Rattle.nesting.proofs.cursor.next_nested.Goals as goal
 pub deepen-requires : goal.deepen-requires
 deepen-requires c =
     let given = c.requires in
-    let placed = c.next_contour-next.ensures.placed in record { bore_set = given.bore_set; placed = placed; swept = λ more. from-other given.bore_set placed more given.nested_at given.more_value (omega (arith, c.if-next-here.true)) c.if-here-next.true }
+    let placed = c.next_contour-next.ensures.placed in record { bore_set = given.bore_set; placed = placed; swept = λ more. from-other given.bore_set placed more given.nested_at given.more (omega (arith, c.if-next-here.true)) c.if-here-next.true }
 
 pub returns-then-here-next : goal.returns-then-here-next
 returns-then-here-next c = moved-nested c.deepen.ensures c.next_contour-next.ensures

@@ -29,7 +29,7 @@ pub next_stick-stick-requires : goal.next_stick-stick-requires
 next_stick-stick-requires c =
     let here : (let a = c.args in LentAt (layer_of a.size a.bitmap.now) a.table.now c.loop-kept.stick) =
     tally-here c.requires c.loop-kept.invariant in
-    record { sound = here.sound; e_value = here.stick }
+    record { sound = here.sound; stick = here.stick }
 
 pub loop-kept-smaller : goal.loop-kept-smaller
 loop-kept-smaller c =

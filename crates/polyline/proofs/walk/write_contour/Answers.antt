@@ -85,7 +85,7 @@ pub next_stick-e-requires : goal.next_stick-e-requires
 next_stick-e-requires c =
     let here : (let a = c.args in LentAt (layer_of a.size a.bitmap.now) a.table.now c.loop-items.e) =
     writes-here c.requires.lent_at c.loop-items.invariant in
-    record { sound = here.sound; e_value = here.stick }
+    record { sound = here.sound; stick = here.stick }
 
 pub put_item-requires : goal.put_item-requires
 unfolding kept_at offset_at

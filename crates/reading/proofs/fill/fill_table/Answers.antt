@@ -13,4 +13,4 @@ store_contours-requires c =
     let exact = given.table_len in
     let none = c.clear.ensures ∙ ap (λ (n : ℕ). fill (λ k. 0) 0 n a.table.now) exact ∙ fill-all (λ k. 0)
     (edge_count a.size) a.table.now exact in
-    record { first_set = given.first_set; sheet_value = given.sheet_value; table_value = none }
+    record { first_set = given.first_set; formed = given.formed; empty = none }

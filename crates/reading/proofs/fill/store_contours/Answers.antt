@@ -8,11 +8,11 @@ use Rattle.reading.proofs.Storing.{none-exact, filling-start, filling-room, fill
 use Rattle.reading.proofs.fill.store_contours.Goals as goal
 
 pub loop-at-init : goal.loop-at-init
-loop-at-init c = filling-start c.requires.table_value c.first_contour-at.ensures
+loop-at-init c = filling-start c.requires.empty c.first_contour-at.ensures
 
 pub overflow_add-start : goal.overflow_add-start
 overflow_add-start c =
-    omega (arith, filling-room c.loop-at.invariant c.requires.first_set c.loop-at-test.true c.requires.sheet_value)
+    omega (arith, filling-room c.loop-at.invariant c.requires.first_set c.loop-at-test.true c.requires.formed)
 
 pub store_vertices-place-requires : goal.store_vertices-place-requires
 store_vertices-place-requires c =
@@ -20,11 +20,11 @@ store_vertices-place-requires c =
     let set = given.first_set in
     let more = c.loop-at-test.true in
     let inv = c.loop-at.invariant in
-    record { lent_at = record { sound = set.sound; exact = inv.exact; stick = here-stick set inv.placed more }; first_in_bounds = filling-room inv set more given.sheet_value }
+    record { lent_at = record { sound = set.sound; exact = inv.exact; stick = here-stick set inv.placed more }; room = filling-room inv set more given.formed }
 
 pub next_contour-at-requires : goal.next_contour-at-requires
 next_contour-at-requires c =
-    record { first_set = c.requires.first_set; placed = c.loop-at.invariant.placed; more_value = c.loop-at-test.true }
+    record { first_set = c.requires.first_set; placed = c.loop-at.invariant.placed; more = c.loop-at-test.true }
 
 pub loop-at-smaller : goal.loop-at-smaller
 loop-at-smaller c = fewer c.next_contour-at.ensures.left
@@ -36,7 +36,7 @@ loop-at-preserved c =
 pub shape_of-table : goal.shape_of-table
 shape_of-table c =
     let a = c.args in
-    c.loop-at.invariant.exact ∙ sym (none-exact (layer_of a.size a.bitmap.now) c.requires.table_value)
+    c.loop-at.invariant.exact ∙ sym (none-exact (layer_of a.size a.bitmap.now) c.requires.empty)
 
 pub returns : goal.returns
 returns c =

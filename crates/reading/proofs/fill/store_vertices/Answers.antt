@@ -10,7 +10,7 @@ use Rattle.reading.proofs.Storing.{storing-start, storing-here, storing-room, st
 use Rattle.reading.proofs.fill.store_vertices.Goals as goal
 
 pub loop-size-init : goal.loop-size-init
-loop-size-init c = let given = c.requires in storing-start given.lent_at given.first_in_bounds
+loop-size-init c = let given = c.requires in storing-start given.lent_at given.room
 
 pub entry_from-requires : goal.entry_from-requires
 entry_from-requires c =
@@ -34,7 +34,7 @@ pub next_stick-e-requires : goal.next_stick-e-requires
 next_stick-e-requires c =
     let here : (let a = c.args in LentAt (layer_of a.size a.bitmap.now) c.loop-size.table c.loop-size.e) =
     storing-here c.requires.lent_at.sound c.loop-size.invariant in
-    let given = here in record { sound = given.sound; e_value = given.stick }
+    let given = here in record { sound = given.sound; stick = given.stick }
 
 pub loop-size-smaller : goal.loop-size-smaller
 loop-size-smaller c =

@@ -13,13 +13,13 @@ loop-at-init c = asked-start c.first_contour-at.ensures
 
 pub overflow_add-start : goal.overflow_add-start
 overflow_add-start c =
-    let stand = asked-stand c.loop-at.invariant c.requires.first_set c.loop-at-test.true c.requires.sheet_value in
+    let stand = asked-stand c.loop-at.invariant c.requires.first_set c.loop-at-test.true c.requires.formed in
     omega (arith, stand.room)
 
 pub held_contour-checked-requires : goal.held_contour-checked-requires
 held_contour-checked-requires c =
     let given = c.requires in
-    asked-stand c.loop-at.invariant given.first_set c.loop-at-test.true given.sheet_value
+    asked-stand c.loop-at.invariant given.first_set c.loop-at-test.true given.formed
 
 pub returns-then-not-checked : goal.returns-then-not-checked
 returns-then-not-checked c =
@@ -28,7 +28,7 @@ returns-then-not-checked c =
 
 pub next_contour-at-requires : goal.next_contour-at-requires
 next_contour-at-requires c =
-    record { first_set = c.requires.first_set; placed = c.loop-at.invariant.asked.placed; more_value = c.loop-at-test.true }
+    record { first_set = c.requires.first_set; placed = c.loop-at.invariant.asked.placed; more = c.loop-at-test.true }
 
 pub loop-at-smaller : goal.loop-at-smaller
 loop-at-smaller c = fewer c.next_contour-at.ensures.left

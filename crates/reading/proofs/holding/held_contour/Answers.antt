@@ -31,7 +31,7 @@ held_edge-requires c =
     let v = c.loop-size.v in
     kept_at L (described L a.sheet.now) v.stick ≡ not (eqb (get_or a.sheet.now v.place 0) 0x52)) =
     kept_is c.requires c.loop-size.invariant.expected (λ k. (c.type_inv.sheet k).fits) in
-    record { vertices_stand = c.requires; vertex_expected = c.loop-size.invariant.expected; stick_value = kept_here ∙ ap not (ne_eqb _ _ c.if-sheet-place-ne82.true) }
+    record { vertices_stand = c.requires; vertex_expected = c.loop-size.invariant.expected; kept = kept_here ∙ ap not (ne_eqb _ _ c.if-sheet-place-ne82.true) }
 
 pub returns-then-not-held_edge : goal.returns-then-not-held_edge
 returns-then-not-held_edge c =
@@ -50,7 +50,7 @@ overflow_add-kept c =
 pub next_stick-stick-requires : goal.next_stick-stick-requires
 next_stick-stick-requires c =
     let sound = c.requires.sound in
-    record { sound = sound; e_value = counted-stick sound c.loop-size.invariant.counted }
+    record { sound = sound; stick = counted-stick sound c.loop-size.invariant.counted }
 
 pub overflow_add-after : goal.overflow_add-after
 overflow_add-after c =

@@ -19,7 +19,7 @@ kept_after-end-requires c =
     let a = c.args in
     let given = c.requires in
     let L = layer_of a.size a.bitmap.now in
-    record { vertices_stand = given.vertices_stand; vertex_expected = given.vertex_expected; stick_value = kept-not-removed L (described L a.sheet.now) a.v.stick given.stick_value }
+    record { vertices_stand = given.vertices_stand; vertex_expected = given.vertex_expected; not_removed = kept-not-removed L (described L a.sheet.now) a.v.stick given.kept }
 
 pub position_from-p-requires : goal.position_from-p-requires
 position_from-p-requires c =

@@ -36,7 +36,7 @@ pub loop-size-preserved : goal.loop-size-preserved
 loop-size-preserved c =
     let given = c.requires in
     seeking-turn given.vertices_stand given.vertex_expected c.loop-size.invariant (λ k. (c.type_inv.sheet k).fits)
-    c.vertex_after-at.ensures given.stick_value c.if-sheet-place-ne82.false
+    c.vertex_after-at.ensures given.not_removed c.if-sheet-place-ne82.false
 
 pub returns : goal.returns
 returns c =

@@ -6,7 +6,7 @@ use Rattle.reading.proofs.Vertices.{vertex-stick, vertex-next}
 use Rattle.reading.proofs.holding.vertex_after.Goals as goal
 
 pub next_stick-stick-requires : goal.next_stick-stick-requires
-next_stick-stick-requires c = let given = c.requires in record { sound = given.sound; e_value = vertex-stick given.sound given.vertex_expected }
+next_stick-stick-requires c = let given = c.requires in record { sound = given.sound; stick = vertex-stick given.sound given.vertex_expected }
 
 pub returns : goal.returns
 returns c =

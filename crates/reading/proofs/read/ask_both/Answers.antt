@@ -15,7 +15,7 @@ returns-in_default c =
 
 pub ask_described-requires : goal.ask_described-requires
 ask_described-requires c =
-    record { first_set = c.requires; sheet_value = sym c.ask_sheet-formed.ensures ∙ c.in-Yes.is }
+    record { first_set = c.requires; formed = sym c.ask_sheet-formed.ensures ∙ c.in-Yes.is }
 
 pub returns : goal.returns
 returns c =

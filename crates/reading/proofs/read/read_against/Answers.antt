@@ -24,7 +24,7 @@ fill_table-requires c =
     let a = c.args in
     let L = layer_of a.size a.bitmap.now in
     let s = a.sheet.now in
-    record { first_set = c.first_sticks.ensures; sheet_value = (first_no-yes (sheet_answer L s) (held_answer L (described L s) ∷ []) both).0; table_len = c.requires.exact }
+    record { first_set = c.first_sticks.ensures; formed = (first_no-yes (sheet_answer L s) (held_answer L (described L s) ∷ []) both).0; table_len = c.requires.exact }
 
 pub returns-in-Yes : goal.returns-in-Yes
 returns-in-Yes c =

@@ -7,5 +7,5 @@ pub returns : goal.returns
 returns c =
     let a = c.args in
     λ bitmap.
-    pin-step (layer_of a.size bitmap) a.at a.table.now c.named_at-stick.ensures (c.pin.ensures.by_index bitmap) c.step_after.ensures
-    (c.pin.ensures.by_index_2 bitmap)
+    pin-step (layer_of a.size bitmap) a.at a.table.now c.named_at-stick.ensures (c.pin.ensures.answered bitmap) c.step_after.ensures
+    (c.pin.ensures.stored bitmap)

@@ -13,7 +13,7 @@ overflow_mul-k c = omega (arith, put_small c.requires.has_sticks c.loop-k.invari
 pub number_of-requires : goal.number_of-requires
 number_of-requires c =
     let contour = c.requires.has_sticks in
-    record { sized = contour.sound.whole.sized; e_value = stick-in _ _ (put-stick contour c.loop-k.invariant).stick }
+    record { sized = contour.sound.whole.sized; within = stick-in _ _ (put-stick contour c.loop-k.invariant).stick }
 
 pub overflow_cast-marks : goal.overflow_cast-marks
 overflow_cast-marks c =
@@ -40,4 +40,4 @@ loop-k-preserved c =
 
 pub returns : goal.returns
 returns c =
-    record { marks_len_2 = c.loop-k.invariant.sized; marked_along = put_all c.requires.has_sticks c.loop-k.invariant c.loop-k-test.false }
+    record { same_room = c.loop-k.invariant.sized; marked_along = put_all c.requires.has_sticks c.loop-k.invariant c.loop-k-test.false }

@@ -14,8 +14,8 @@ crosses_stick-requires c =
     let near : (let a = c.args in Near a.p × (Near a.q × NearEdge a.u)) =
     let a = c.args in
     let given = c.requires in
-    (given.near, (given.near_2, stick-near (layer_of a.size a.bitmap.now) given.lent_at.sound a.u given.lent_at.stick)) in
-    record { near = near.0; near_2 = near.1.0; near_edge = near.1.1 }
+    (given.p_near, (given.q_near, stick-near (layer_of a.size a.bitmap.now) given.lent_at.sound a.u given.lent_at.stick)) in
+    record { p_near = near.0; q_near = near.1.0; near_edge = near.1.1 }
 
 pub returns-then-not-crosses_stick : goal.returns-then-not-crosses_stick
 returns-then-not-crosses_stick c =
@@ -37,8 +37,8 @@ slides_within-requires c =
     let near : (let a = c.args in Near a.p × (Near a.q × NearEdge a.u)) =
     let a = c.args in
     let given = c.requires in
-    (given.near, (given.near_2, stick-near (layer_of a.size a.bitmap.now) given.lent_at.sound a.u given.lent_at.stick)) in
-    record { near = near.0; near_2 = near.1.0; near_edge = near.1.1 }
+    (given.p_near, (given.q_near, stick-near (layer_of a.size a.bitmap.now) given.lent_at.sound a.u given.lent_at.stick)) in
+    record { p_near = near.0; q_near = near.1.0; near_edge = near.1.1 }
 
 pub returns-then-not-slides_within : goal.returns-then-not-slides_within
 unfolding offset_at

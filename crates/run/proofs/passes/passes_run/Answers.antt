@@ -21,7 +21,7 @@ loop-left-init c =
 
 pub next_stick-at-requires : goal.next_stick-at-requires
 next_stick-at-requires c =
-    record { sound = c.requires.sound; e_value = c.loop-left.invariant.stick }
+    record { sound = c.requires.sound; stick = c.loop-left.invariant.stick }
 
 pub chord_passes-requires : goal.chord_passes-requires
 chord_passes-requires c =
@@ -31,8 +31,8 @@ chord_passes-requires c =
         exact = given.exact;
         stick = on-next given.sound _ c.loop-left.invariant.stick c.next_stick-at.ensures;
       };
-      near = c.vertex_at-p.ensures.near;
-      near_2 = c.vertex_at-q.ensures.near;
+      p_near = c.vertex_at-p.ensures.near;
+      q_near = c.vertex_at-q.ensures.near;
     }
 
 pub returns-then-not-chord_passes : goal.returns-then-not-chord_passes

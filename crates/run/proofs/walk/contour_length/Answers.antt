@@ -11,7 +11,7 @@ pub overflow_add-n : goal.overflow_add-n
 overflow_add-n c = omega (arith, sticks-most c.requires.sound c.loop-size.invariant)
 
 pub next_stick-e-requires : goal.next_stick-e-requires
-next_stick-e-requires c = let given = c.requires in record { sound = given.sound; e_value = sticks-here given.sound c.loop-size.invariant }
+next_stick-e-requires c = let given = c.requires in record { sound = given.sound; stick = sticks-here given.sound c.loop-size.invariant }
 
 pub loop-size-smaller : goal.loop-size-smaller
 loop-size-smaller c =

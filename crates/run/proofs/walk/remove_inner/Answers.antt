@@ -9,7 +9,7 @@ pub loop-left-init : goal.loop-left-init
 loop-left-init c = record { stick = c.requires.stick; same_length = refl; same = refl }
 
 pub next_stick-at-requires : goal.next_stick-at-requires
-next_stick-at-requires c = record { sound = c.requires.sound; e_value = c.loop-left.invariant.stick }
+next_stick-at-requires c = record { sound = c.requires.sound; stick = c.loop-left.invariant.stick }
 
 pub remove-requires : goal.remove-requires
 remove-requires c =

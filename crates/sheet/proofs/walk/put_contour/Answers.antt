@@ -9,13 +9,13 @@ use Rattle.sheet.proofs.walk.put_contour.Goals as goal
 
 pub put_first-requires : goal.put_first-requires
 unfolding contour_bytes
-put_first-requires c = omega (arith, c.requires.first_in_bounds)
+put_first-requires c = omega (arith, c.requires.room)
 
 pub put_vertices-requires : goal.put_vertices-requires
 unfolding contour_bytes
 put_vertices-requires c =
     let a = c.args in
-    record { lent_at = c.requires.lent_at; first_in_bounds = omega (arith, c.requires.first_in_bounds, stored-length a.sheet.now a.at (contour_command a.first) c.put_first.ensures) }
+    record { lent_at = c.requires.lent_at; room = omega (arith, c.requires.room, stored-length a.sheet.now a.at (contour_command a.first) c.put_first.ensures) }
 
 pub returns : goal.returns
 unfolding contour_bytes

@@ -11,11 +11,11 @@ put_contour-place-requires c =
     let given = c.requires in
     let set = given.first_set in
     let more = c.loop-at-test.true in
-    let inv = c.loop-at.invariant in record { lent_at = record { sound = given.lent.sound; exact = given.lent.exact; stick = here-stick set inv.placed more }; first_in_bounds = contour-room inv set more given.table_in_bounds }
+    let inv = c.loop-at.invariant in record { lent_at = record { sound = given.lent.sound; exact = given.lent.exact; stick = here-stick set inv.placed more }; room = contour-room inv set more given.room }
 
 pub next_contour-at-requires : goal.next_contour-at-requires
 next_contour-at-requires c =
-    record { first_set = c.requires.first_set; placed = c.loop-at.invariant.placed; more_value = c.loop-at-test.true }
+    record { first_set = c.requires.first_set; placed = c.loop-at.invariant.placed; more = c.loop-at-test.true }
 
 pub loop-at-smaller : goal.loop-at-smaller
 loop-at-smaller c = fewer c.next_contour-at.ensures.left

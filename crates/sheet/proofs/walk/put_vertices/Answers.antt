@@ -22,14 +22,14 @@ entry_at-requires c =
 pub put_vertex-at-requires : goal.put_vertex-at-requires
 put_vertex-at-requires c =
     let given = c.requires in
-    vertex-room given.lent_at.sound c.loop-size.invariant c.entry_at.ensures given.first_in_bounds
+    vertex-room given.lent_at.sound c.loop-size.invariant c.entry_at.ensures given.room
 
 pub next_stick-e-requires : goal.next_stick-e-requires
 next_stick-e-requires c =
     let here : (let a = c.args in LentAt (layer_of a.size a.bitmap.now) a.table.now c.loop-size.e) =
     let given = c.requires.lent_at in
     record { sound = given.sound; exact = given.exact; stick = vertex-stick given.sound c.loop-size.invariant } in
-    let given = here in record { sound = given.sound; e_value = given.stick }
+    let given = here in record { sound = given.sound; stick = given.stick }
 
 pub loop-size-smaller : goal.loop-size-smaller
 loop-size-smaller c =

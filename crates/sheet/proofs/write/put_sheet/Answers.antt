@@ -10,14 +10,14 @@ use Rattle.sheet.proofs.write.put_sheet.Goals as goal
 pub put_size-requires : goal.put_size-requires
 put_size-requires c =
     let a = c.args in
-    omega (arith, c.requires.table_in_bounds, sheet-parts (layer_of a.size a.bitmap.now) a.table.now)
+    omega (arith, c.requires.room, sheet-parts (layer_of a.size a.bitmap.now) a.table.now)
 
 pub put_contours-end-requires : goal.put_contours-end-requires
 put_contours-end-requires c =
     let a = c.args in
     let L = layer_of a.size a.bitmap.now in
     let same = stored-length a.sheet.now 0 (size_command a.size) c.put_size.ensures in
-    record { lent = c.requires.lent; first_set = c.requires.first_set; table_in_bounds = omega (arith, c.requires.table_in_bounds, sheet-parts L a.table.now, same) }
+    record { lent = c.requires.lent; first_set = c.requires.first_set; room = omega (arith, c.requires.room, sheet-parts L a.table.now, same) }
 
 pub put_byte-requires : goal.put_byte-requires
 put_byte-requires c =
@@ -26,7 +26,7 @@ put_byte-requires c =
     let put = c.put_contours-end.ensures in
     let same = stored-length a.sheet.now 0 (size_command a.size) c.put_size.ensures in
     let still = stored-length _ 5 (all_contours L a.table.now) put.bytes in
-    omega (arith, c.requires.table_in_bounds, sheet-parts L a.table.now, put.after, same, still)
+    omega (arith, c.requires.room, sheet-parts L a.table.now, put.after, same, still)
 
 pub returns : goal.returns
 unfolding sheet_of

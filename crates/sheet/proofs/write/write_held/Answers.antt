@@ -15,11 +15,11 @@ returns-then-sheet-length c =
     c.sheet_length-length.result ≡ length (sheet_of (layer_of a.size a.bitmap.now) a.table.now)) =
     let a = c.args in
     let L = layer_of a.size a.bitmap.now in
-    let all = accepted-of L a.table.now c.requires.table_value in
+    let all = accepted-of L a.table.now c.requires.held in
     c.sheet_length-length.ensures ∙ sym (Counted.sheet-length L all.sound a.table.now all.entries) in
     let a = c.args in
     let L = layer_of a.size a.bitmap.now in
-    sym (written-short L a.table.now a.sheet.now c.requires.table_value (omega (arith, c.if-sheet-length.true, length_is)))
+    sym (written-short L a.table.now a.sheet.now c.requires.held (omega (arith, c.if-sheet-length.true, length_is)))
 
 pub put_sheet-requires : goal.put_sheet-requires
 put_sheet-requires c =
@@ -27,12 +27,12 @@ put_sheet-requires c =
     c.sheet_length-length.result ≡ length (sheet_of (layer_of a.size a.bitmap.now) a.table.now)) =
     let a = c.args in
     let L = layer_of a.size a.bitmap.now in
-    let all = accepted-of L a.table.now c.requires.table_value in
+    let all = accepted-of L a.table.now c.requires.held in
     c.sheet_length-length.ensures ∙ sym (Counted.sheet-length L all.sound a.table.now all.entries) in
     let a = c.args in
     let L = layer_of a.size a.bitmap.now in
-    let all = accepted-of L a.table.now c.requires.table_value in
-    record { lent = record { sound = all.sound; exact = all.exact }; first_set = c.requires.first_set; table_in_bounds = omega (arith, c.if-sheet-length.false, length_is) }
+    let all = accepted-of L a.table.now c.requires.held in
+    record { lent = record { sound = all.sound; exact = all.exact }; first_set = c.requires.first_set; room = omega (arith, c.if-sheet-length.false, length_is) }
 
 pub returns : goal.returns
 returns c =
@@ -40,10 +40,10 @@ returns c =
     c.sheet_length-length.result ≡ length (sheet_of (layer_of a.size a.bitmap.now) a.table.now)) =
     let a = c.args in
     let L = layer_of a.size a.bitmap.now in
-    let all = accepted-of L a.table.now c.requires.table_value in
+    let all = accepted-of L a.table.now c.requires.held in
     c.sheet_length-length.ensures ∙ sym (Counted.sheet-length L all.sound a.table.now all.entries) in
     let a = c.args in
     let L = layer_of a.size a.bitmap.now in
     let long = length_is in
-    let done = written-done L a.table.now a.sheet.now c.requires.table_value (omega (arith, c.if-sheet-length.false, long)) in
+    let done = written-done L a.table.now a.sheet.now c.requires.held (omega (arith, c.if-sheet-length.false, long)) in
     (λ i. record { refusal = 0; place = 0; written = long i; output = c.put_sheet.ensures i }) ∙ sym done

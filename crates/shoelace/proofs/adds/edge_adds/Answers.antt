@@ -18,7 +18,7 @@ kept_after-end-requires c =
     let given : (let a = c.args in LentAt (layer_of a.size a.bitmap.now) a.table.now a.e) =
     lent_at c.requires.held_stick in
     let a = c.args in
-    record { lent_at = given; e_value = kept-not-removed (layer_of a.size a.bitmap.now) a.table.now a.e c.requires.e_value }
+    record { lent_at = given; not_removed = kept-not-removed (layer_of a.size a.bitmap.now) a.table.now a.e c.requires.kept }
 
 pub vertex_at-requires : goal.vertex_at-requires
 vertex_at-requires c =
@@ -34,7 +34,7 @@ vertex_at-requires-2 c =
     has-entry (record { sound = lent.sound; exact = lent.exact; stick = c.kept_after-end.ensures.stick })
 
 pub cross_of-requires : goal.cross_of-requires
-cross_of-requires c = record { near = c.vertex_at.ensures.near; near_2 = c.vertex_at-2.ensures.near }
+cross_of-requires c = record { p_near = c.vertex_at.ensures.near; q_near = c.vertex_at-2.ensures.near }
 
 pub returns : goal.returns
 unfolding offset_at

@@ -36,7 +36,7 @@ edge_adds-requires c =
     sym (c.is_kept.ensures ∙ ap is_kept c.entry_at.ensures) in
     let kept : (let a = c.args in kept_at (layer_of a.size a.bitmap.now) a.table.now a.e ≡ true) =
     kept_is ∙ c.if-not-is_kept.false in
-    record { held_stick = here; e_value = kept }
+    record { held_stick = here; kept = kept }
 
 pub overflow_add-sum : goal.overflow_add-sum
 overflow_add-sum c =

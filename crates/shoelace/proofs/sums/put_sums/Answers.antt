@@ -5,7 +5,7 @@ use Rattle.shoelace.proofs.Running.{all_start, all_middle, all_end}
 use Rattle.shoelace.proofs.sums.put_sums.Goals as goal
 
 pub sums_of_kind-horizontal-requires : goal.sums_of_kind-horizontal-requires
-sums_of_kind-horizontal-requires c = let given = c.requires in all_start given.accepted given.table_in_bounds
+sums_of_kind-horizontal-requires c = let given = c.requires in all_start given.accepted given.room
 
 pub sums_of_kind-all-requires : goal.sums_of_kind-all-requires
 sums_of_kind-all-requires c =

@@ -6,7 +6,7 @@ use Rattle.run.specs.Runs.{HasSticks}
 use Rattle.simplify.proofs.tries.simplify_contour.Goals as goal
 
 pub slice_bounds-try_runs-end : goal.slice_bounds-try_runs-end
-slice_bounds-try_runs-end c = sym c.put_marks.ensures.marks_len_2
+slice_bounds-try_runs-end c = sym c.put_marks.ensures.same_room
 
 pub try_runs-requires : goal.try_runs-requires
 try_runs-requires c =

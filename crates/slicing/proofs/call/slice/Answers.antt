@@ -66,7 +66,7 @@ slice_bounds-slice_layer-start c =
 
 pub slice_layer-requires : goal.slice_layer-requires
 slice_layer-requires c =
-    record { h_value = sym c.sides_fit.ensures ∙ c.if-not-sides_fit.false; answer_limit_in_bounds = search rules }
+    record { fits = sym c.sides_fit.ensures ∙ c.if-not-sides_fit.false; room = search rules }
 
 pub returns : goal.returns
 returns c =

@@ -1,5 +1,4 @@
--- `slice_in` meets its contract. `refined`, `told` and `traced` are the places after `refine`, where the answer of Trace is known, and after
--- Trace; the buffers that a call leaves are its `last`.
+-- `slice_in` meets its contract: by the answer of Trace, and by what Trace and `refine` leave in the table.
 use mathlib.Core.Path.{ap, ◌∙◌}
 use mathlib.Core.List.{List}
 use Prim.Native.Nat.{ℕ}
@@ -21,8 +20,8 @@ write-requires c =
     c.in-Done.is in
     let after =
     after-done L a.table.now c.trace-traced.new.table c.refine.new.table done c.refine.ensures
-    c.requires.h_value in
-    record { table_value = after.0; table_in_bounds = omega (arith, after.1, c.requires.answer_limit_in_bounds) }
+    c.requires.fits in
+    record { held = after.0; room = omega (arith, after.1, c.requires.room) }
 
 pub returns-in-Done : goal.returns-in-Done
 returns-in-Done c =

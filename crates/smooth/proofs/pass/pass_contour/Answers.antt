@@ -28,13 +28,13 @@ pub number_of-start-requires : goal.number_of-start-requires
 number_of-start-requires c =
     let first : (let a = c.args in LentAt (layer_of a.size a.bitmap.now) a.table.now a.first) =
     record { sound = c.requires.table.sound; exact = c.requires.table.exact; stick = c.requires.stick } in
-    let entry = has-entry first in record { sized = entry.sized; e_value = entry.in-grid }
+    let entry = has-entry first in record { sized = entry.sized; within = entry.in-grid }
 
 pub previous_stick-requires : goal.previous_stick-requires
 previous_stick-requires c =
     let first : (let a = c.args in LentAt (layer_of a.size a.bitmap.now) a.table.now a.first) =
     record { sound = c.requires.table.sound; exact = c.requires.table.exact; stick = c.requires.stick } in
-    let given = first in record { sound = given.sound; e_value = given.stick }
+    let given = first in record { sound = given.sound; stick = given.stick }
 
 pub vertex_at-p-requires : goal.vertex_at-p-requires
 vertex_at-p-requires c =
@@ -51,10 +51,10 @@ loop-at-init c =
     c.previous_stick.ensures vertex.value vertex.near
 
 pub next_stick-next-requires : goal.next_stick-next-requires
-next_stick-next-requires c = let given = here c in record { sound = given.sound; e_value = given.stick }
+next_stick-next-requires c = let given = here c in record { sound = given.sound; stick = given.stick }
 
 pub number_of-after-requires : goal.number_of-after-requires
-number_of-after-requires c = let entry = has-entry (there c) in record { sized = entry.sized; e_value = entry.in-grid }
+number_of-after-requires c = let entry = has-entry (there c) in record { sized = entry.sized; within = entry.in-grid }
 
 pub offset_bounds-table-after : goal.offset_bounds-table-after
 offset_bounds-table-after c =

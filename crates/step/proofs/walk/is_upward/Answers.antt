@@ -9,7 +9,7 @@ pub is_inside-inside-requires : goal.is_inside-inside-requires
 is_inside-inside-requires c =
     let a = c.args in
     let given = c.requires in
-    let inside = stick-sample (layer_of a.size a.bitmap.now) given.sound a.e.vertical a.e.column a.e.row given.e_value in
+    let inside = stick-sample (layer_of a.size a.bitmap.now) given.sound a.e.vertical a.e.column a.e.row given.stick in
     record { whole = given.sound.whole; column_lt_width = inside.0; row_lt_height = inside.1 }
 
 pub returns-then-e : goal.returns-then-e
