@@ -1,7 +1,7 @@
 -- Cells, that is squares of four samples, and the links between their sides. A cell has the column and row of its lower left sample.
 -- "Row 0 is lowest, y grows with the row": north is towards higher rows, east towards higher columns.
 use Rattle.std.specs.Prelude.{Bool, cond, ◌&&◌, List, [], ◌∷◌, ℕ, zero, suc, ◌+◌, ◌*◌, ◌/◌, ◌%◌, ◌^◌, get_or}
-use Rattle.std.proofs.Math.Bool.{xor}
+use Rattle.std.specs.Bool.{xor}
 use Rattle.arith.specs.Booleans.{as_number}
 use Rattle.grid.specs.Layer.{Layer, sample}
 use Rattle.grid.specs.declared.edge.Edge.{Edge}
@@ -40,7 +40,6 @@ end_corner k West = k.nw
 
 -- the side is a stick
 abbrev pub cut : Corners → Side → Bool
-unfolding xor
 cut k s = xor (start_corner k s) (end_corner k s)
 
 -- two inside corners on a diagonal, and no other: all four sides are sticks
