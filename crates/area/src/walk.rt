@@ -45,7 +45,8 @@ pub fn contour_area(size: Size, bitmap: &[u8], table: &[u16], first: Edge) -> i6
     };
     let mut e = first;
     loop {
-        if is_kept(entry_at(size, table, e)) {
+        let kept = is_kept(entry_at(size, table, e));
+        if kept {
             let here = vertex_at(size, table, e);
             area += cross_of(trail.last, here);
             trail = trail_to(trail, here);

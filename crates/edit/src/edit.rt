@@ -88,7 +88,8 @@ fn ask_removal(
     requires { NamedKept (layer_of size bitmap.now) table.now stick }
     ensures { result ≡ removal_answer (layer_of size bitmap.now) t table.now place stick }
 {
-    if carries_pin(size, table, stick) {
+    let pinned = carries_pin(size, table, stick);
+    if pinned {
         return Answer::No(Refusal::VertexPinned, place);
     }
     let e = edge_named(stick);

@@ -46,18 +46,18 @@ loop-here-preserved c =
     summed-small c.requires c.loop-here.invariant in
     let turned : (let a = c.args in
     Turned (layer_of a.size a.bitmap.now) a.table.now c.loop-here.e (to_z w64 c.loop-here.area-bits) c.loop-here.trail
-    (to_z w64 c.if-is_kept.area-bits) c.if-is_kept.trail) =
+    (to_z w64 c.if-kept.area-bits) c.if-kept.trail) =
     let so_far = small in
-    let kept = sym (c.is_kept.ensures ∙ ap is_kept c.entry_at.ensures) in
-    elim c.if-is_kept.branch [
-      | goal.then-is_kept w ↦ record {
+    let kept = sym (c.is_kept-kept.ensures ∙ ap is_kept c.entry_at.ensures) in
+    elim c.if-kept.branch [
+      | goal.then-kept w ↦ record {
         kept =
             λ k.
             passed-kept w.vertex_at-here.ensures.value w.vertex_at-here.ensures.near w.cross_of-area.ensures.value w.cross_of-area.ensures.result_bound
             (w.area-is ∙ exact (search sized depth 9) tt) (w.trail-is ∙ w.trail_to-trail.ensures);
-        over = λ k. absurd (true≢false (sym (kept ∙ w.if-is_kept.true) ∙ k));
+        over = λ k. absurd (true≢false (sym (kept ∙ w.if-kept.true) ∙ k));
       }
-      | goal.else-is_kept w ↦ record { kept = λ k. absurd (true≢false (sym k ∙ kept ∙ w.if-is_kept.false)); over = λ k. (w.area-is, w.trail-is) }
+      | goal.else-kept w ↦ record { kept = λ k. absurd (true≢false (sym k ∙ kept ∙ w.if-kept.false)); over = λ k. (w.area-is, w.trail-is) }
     ] in
     summed_turn c.requires c.loop-here.invariant c.next_stick-e.ensures turned
     (sym c.same_edge.ensures ∙ c.if-same_edge.false)
@@ -69,21 +69,21 @@ cross_of-requires c =
     summed-small c.requires c.loop-here.invariant in
     let turned : (let a = c.args in
     Turned (layer_of a.size a.bitmap.now) a.table.now c.loop-here.e (to_z w64 c.loop-here.area-bits) c.loop-here.trail
-    (to_z w64 c.if-is_kept.area-bits) c.if-is_kept.trail) =
+    (to_z w64 c.if-kept.area-bits) c.if-kept.trail) =
     let so_far = small in
-    let kept = sym (c.is_kept.ensures ∙ ap is_kept c.entry_at.ensures) in
-    elim c.if-is_kept.branch [
-      | goal.then-is_kept w ↦ record {
+    let kept = sym (c.is_kept-kept.ensures ∙ ap is_kept c.entry_at.ensures) in
+    elim c.if-kept.branch [
+      | goal.then-kept w ↦ record {
         kept =
             λ k.
             passed-kept w.vertex_at-here.ensures.value w.vertex_at-here.ensures.near w.cross_of-area.ensures.value w.cross_of-area.ensures.result_bound
             (w.area-is ∙ exact (search sized depth 9) tt) (w.trail-is ∙ w.trail_to-trail.ensures);
-        over = λ k. absurd (true≢false (sym (kept ∙ w.if-is_kept.true) ∙ k));
+        over = λ k. absurd (true≢false (sym (kept ∙ w.if-kept.true) ∙ k));
       }
-      | goal.else-is_kept w ↦ record { kept = λ k. absurd (true≢false (sym k ∙ kept ∙ w.if-is_kept.false)); over = λ k. (w.area-is, w.trail-is) }
+      | goal.else-kept w ↦ record { kept = λ k. absurd (true≢false (sym k ∙ kept ∙ w.if-kept.false)); over = λ k. (w.area-is, w.trail-is) }
     ] in
     let closing : (let a = c.args in
-    Closing (layer_of a.size a.bitmap.now) a.table.now a.first (to_z w64 c.if-is_kept.area-bits) c.if-is_kept.trail) =
+    Closing (layer_of a.size a.bitmap.now) a.table.now a.first (to_z w64 c.if-kept.area-bits) c.if-kept.trail) =
     summed-end c.requires c.loop-here.invariant c.next_stick-e.ensures turned
     (sym c.same_edge.ensures ∙ c.if-same_edge.true) in
     record { p_near = closing.last_near; q_near = closing.begin_near }
@@ -98,21 +98,21 @@ overflow_add-result c =
     summed-small c.requires c.loop-here.invariant in
     let turned : (let a = c.args in
     Turned (layer_of a.size a.bitmap.now) a.table.now c.loop-here.e (to_z w64 c.loop-here.area-bits) c.loop-here.trail
-    (to_z w64 c.if-is_kept.area-bits) c.if-is_kept.trail) =
+    (to_z w64 c.if-kept.area-bits) c.if-kept.trail) =
     let so_far = small in
-    let kept = sym (c.is_kept.ensures ∙ ap is_kept c.entry_at.ensures) in
-    elim c.if-is_kept.branch [
-      | goal.then-is_kept w ↦ record {
+    let kept = sym (c.is_kept-kept.ensures ∙ ap is_kept c.entry_at.ensures) in
+    elim c.if-kept.branch [
+      | goal.then-kept w ↦ record {
         kept =
             λ k.
             passed-kept w.vertex_at-here.ensures.value w.vertex_at-here.ensures.near w.cross_of-area.ensures.value w.cross_of-area.ensures.result_bound
             (w.area-is ∙ exact (search sized depth 9) tt) (w.trail-is ∙ w.trail_to-trail.ensures);
-        over = λ k. absurd (true≢false (sym (kept ∙ w.if-is_kept.true) ∙ k));
+        over = λ k. absurd (true≢false (sym (kept ∙ w.if-kept.true) ∙ k));
       }
-      | goal.else-is_kept w ↦ record { kept = λ k. absurd (true≢false (sym k ∙ kept ∙ w.if-is_kept.false)); over = λ k. (w.area-is, w.trail-is) }
+      | goal.else-kept w ↦ record { kept = λ k. absurd (true≢false (sym k ∙ kept ∙ w.if-kept.false)); over = λ k. (w.area-is, w.trail-is) }
     ] in
     let closing : (let a = c.args in
-    Closing (layer_of a.size a.bitmap.now) a.table.now a.first (to_z w64 c.if-is_kept.area-bits) c.if-is_kept.trail) =
+    Closing (layer_of a.size a.bitmap.now) a.table.now a.first (to_z w64 c.if-kept.area-bits) c.if-kept.trail) =
     summed-end c.requires c.loop-here.invariant c.next_stick-e.ensures turned
     (sym c.same_edge.ensures ∙ c.if-same_edge.true) in
     let so_far = closing-small given-at closing in
@@ -128,21 +128,21 @@ returns c =
     summed-small c.requires c.loop-here.invariant in
     let turned : (let a = c.args in
     Turned (layer_of a.size a.bitmap.now) a.table.now c.loop-here.e (to_z w64 c.loop-here.area-bits) c.loop-here.trail
-    (to_z w64 c.if-is_kept.area-bits) c.if-is_kept.trail) =
+    (to_z w64 c.if-kept.area-bits) c.if-kept.trail) =
     let so_far = small in
-    let kept = sym (c.is_kept.ensures ∙ ap is_kept c.entry_at.ensures) in
-    elim c.if-is_kept.branch [
-      | goal.then-is_kept w ↦ record {
+    let kept = sym (c.is_kept-kept.ensures ∙ ap is_kept c.entry_at.ensures) in
+    elim c.if-kept.branch [
+      | goal.then-kept w ↦ record {
         kept =
             λ k.
             passed-kept w.vertex_at-here.ensures.value w.vertex_at-here.ensures.near w.cross_of-area.ensures.value w.cross_of-area.ensures.result_bound
             (w.area-is ∙ exact (search sized depth 9) tt) (w.trail-is ∙ w.trail_to-trail.ensures);
-        over = λ k. absurd (true≢false (sym (kept ∙ w.if-is_kept.true) ∙ k));
+        over = λ k. absurd (true≢false (sym (kept ∙ w.if-kept.true) ∙ k));
       }
-      | goal.else-is_kept w ↦ record { kept = λ k. absurd (true≢false (sym k ∙ kept ∙ w.if-is_kept.false)); over = λ k. (w.area-is, w.trail-is) }
+      | goal.else-kept w ↦ record { kept = λ k. absurd (true≢false (sym k ∙ kept ∙ w.if-kept.false)); over = λ k. (w.area-is, w.trail-is) }
     ] in
     let closing : (let a = c.args in
-    Closing (layer_of a.size a.bitmap.now) a.table.now a.first (to_z w64 c.if-is_kept.area-bits) c.if-is_kept.trail) =
+    Closing (layer_of a.size a.bitmap.now) a.table.now a.first (to_z w64 c.if-kept.area-bits) c.if-kept.trail) =
     summed-end c.requires c.loop-here.invariant c.next_stick-e.ensures turned
     (sym c.same_edge.ensures ∙ c.if-same_edge.true) in
     let so_far = closing-small given-at closing in

@@ -6,12 +6,12 @@ use Rattle.edit.specs.Edits.{may_move}
 use Rattle.edit.proofs.Asked.{editable, named-entry, pinned-no, unpinned-yes, removal-pinned, removal-missed, removal-far, removal-done, removal-third-left}
 use Rattle.edit.proofs.edit.ask_removal.Goals as goal
 
-pub carries_pin-requires : goal.carries_pin-requires
-carries_pin-requires c = named-entry c.requires
+pub carries_pin-pinned-requires : goal.carries_pin-pinned-requires
+carries_pin-pinned-requires c = named-entry c.requires
 
-pub returns-then-carries_pin : goal.returns-then-carries_pin
-returns-then-carries_pin c =
-    removal-pinned c.args.t c.args.place c.requires (pinned-no _ _ c.args.stick c.carries_pin.ensures c.if-carries_pin.true)
+pub returns-then-pinned : goal.returns-then-pinned
+returns-then-pinned c =
+    removal-pinned c.args.t c.args.place c.requires (pinned-no _ _ c.args.stick c.carries_pin-pinned.ensures c.if-pinned.true)
 
 pub joined-over-requires : goal.joined-over-requires
 joined-over-requires c = editable c.requires c.edge_named-e.ensures
@@ -19,14 +19,14 @@ joined-over-requires c = editable c.requires c.edge_named-e.ensures
 pub returns-then-not-crosses_all : goal.returns-then-not-crosses_all
 returns-then-not-crosses_all c =
     let unpinned : (let a = c.args in may_move (layer_of a.size a.bitmap.now) a.table.now a.stick ≡ true) =
-    unpinned-yes _ _ c.args.stick c.carries_pin.ensures c.if-carries_pin.false in
+    unpinned-yes _ _ c.args.stick c.carries_pin-pinned.ensures c.if-pinned.false in
     removal-missed c.args.t c.args.place c.requires unpinned c.edge_named-e.ensures
     c.joined-over.ensures.value (sym c.crosses_all.ensures ∙ c.if-not-crosses_all.true)
 
 pub returns-then-not-within_all : goal.returns-then-not-within_all
 returns-then-not-within_all c =
     let unpinned : (let a = c.args in may_move (layer_of a.size a.bitmap.now) a.table.now a.stick ≡ true) =
-    unpinned-yes _ _ c.args.stick c.carries_pin.ensures c.if-carries_pin.false in
+    unpinned-yes _ _ c.args.stick c.carries_pin-pinned.ensures c.if-pinned.false in
     removal-far c.args.t c.args.place c.requires unpinned c.edge_named-e.ensures
     c.joined-over.ensures.value (sym c.crosses_all.ensures ∙ c.if-not-crosses_all.false)
     (sym c.within_all.ensures ∙ c.if-not-within_all.true)
@@ -39,7 +39,7 @@ leaves_three-requires c =
 pub returns-then-not-leaves_three : goal.returns-then-not-leaves_three
 returns-then-not-leaves_three c =
     let unpinned : (let a = c.args in may_move (layer_of a.size a.bitmap.now) a.table.now a.stick ≡ true) =
-    unpinned-yes _ _ c.args.stick c.carries_pin.ensures c.if-carries_pin.false in
+    unpinned-yes _ _ c.args.stick c.carries_pin-pinned.ensures c.if-pinned.false in
     let left =
     removal-third-left c.args.t c.args.place c.requires unpinned c.edge_named-e.ensures
     c.joined-over.ensures.value (sym c.crosses_all.ensures ∙ c.if-not-crosses_all.false) in
@@ -48,7 +48,7 @@ returns-then-not-leaves_three c =
 pub returns : goal.returns
 returns c =
     let unpinned : (let a = c.args in may_move (layer_of a.size a.bitmap.now) a.table.now a.stick ≡ true) =
-    unpinned-yes _ _ c.args.stick c.carries_pin.ensures c.if-carries_pin.false in
+    unpinned-yes _ _ c.args.stick c.carries_pin-pinned.ensures c.if-pinned.false in
     removal-done c.args.t c.args.place c.requires unpinned c.edge_named-e.ensures
     c.joined-over.ensures.value (sym c.crosses_all.ensures ∙ c.if-not-crosses_all.false)
     (sym c.within_all.ensures ∙ c.if-not-within_all.false)
