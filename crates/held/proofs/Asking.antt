@@ -52,6 +52,17 @@ cleared-kept L t x k y l = rw (k, y)
 pub cleared-none : (L : Layer) (t : List ℕ) (x : Edge) → kept_at L t x ≡ false → Cleared L t x
 cleared-none L t x k l = rw k
 
+-- the work on x is done: that, and `kept` more by one where its vertex is kept
+abbrev pub Done : Layer → List ℕ → Edge → (kept kept' : ℕ) → Type 0
+Done L t x kept kept' = Cleared L t x × (kept' ≡ kept + as_number (kept_at L t x))
+
+module _ (L : Layer) (t : List ℕ) (x : Edge) (kept : ℕ) {kept' : ℕ} where
+  pub done-kept : kept_at L t x ≡ true → edge_crosses L t x ≡ true → kept' ≡ kept + 1 → Done L t x kept kept'
+  done-kept k y more = (cleared-kept L t x k y, omega (arith, more, ap as_number k))
+
+  pub done-none : kept_at L t x ≡ false → kept' ≡ kept → Done L t x kept kept'
+  done-none k same = (cleared-none L t x k, omega (arith, same, ap as_number k))
+
 -- a walk round the contour of f that stands at x: the kept vertices so far and those still to come are all of them, and what is still to be
 -- asked decides whether all edges cross
 pub record Counted (L : Layer) (t : List ℕ) (f x : Edge) (kept : ℕ) : Type 0 where
@@ -75,6 +86,9 @@ module _ {L : Layer} {t : List ℕ} {f : Edge} where
   module _ (sound : Sound L) {x : Edge} {kept : ℕ} (c : Counted L t f x kept) where
     pub counted-stick : is_stick L x ≡ true
     counted-stick = due-one (walk_of L) (laws L sound) f x c.due
+
+    pub counted-lent : LentAt L t f → LentAt L t x
+    counted-lent given = record { sound = sound; exact = given.exact; stick = counted-stick }
 
     pub counted-most : kept ≤ 2095104
     counted-most =

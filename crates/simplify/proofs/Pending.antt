@@ -8,17 +8,18 @@ use native.Mathlib.Omega.{arith}
 use lib.ListN.{length, get_or, set, length-set}
 use lib.Seq.{get_or-set_same, get_or-set_other}
 use Rattle.grid.specs.Layer.{Layer}
+use Rattle.grid.specs.Edges.{edge_count}
 use Rattle.grid.specs.declared.edge.Edge.{Edge}
 use Rattle.table.specs.Stores.{without}
-use Rattle.run.specs.Runs.{stick_after, between, passes, HasSticks}
+use Rattle.run.specs.Runs.{stick_after, between, passes, HasSticks, RunLent}
 use Rattle.run.proofs.Steps.{most-sticks}
 use Rattle.simplify.specs.Runs.{half, simplify_contour}
 use Rattle.simplify.specs.Parts.{begun, run_to}
 use Rattle.simplify.specs.Waiting.{waits_of}
 use Rattle.simplify.specs.declared.tries.Run.{Run}
-use Rattle.simplify.proofs.Trying.{length-inner}
+use Rattle.simplify.proofs.Trying.{Split, split, length-inner}
 use Rattle.simplify.proofs.Waiting.{contour-few}
-use Rattle.simplify.proofs.RunsLeft.{first_part, second_part, RunFrom, RunsLeft, left-start, left_passed, left_split, next-wait, left-few, left-small}
+use Rattle.simplify.proofs.RunsLeft.{first_part, second_part, RunFrom, run_lent, RunsLeft, left-start, left_passed, left_split, next-wait, left-few, left-small}
 
 -- what stands past the end of an array of runs
 abbrev pub no_run : Run
@@ -120,6 +121,12 @@ module _ {L : Layer} {f : Edge} {n : ℕ} (contour : HasSticks L f n) where
       pub place-small : p + (top_run runs top).edges ≤ 2095104
       place-small = omega (arith, top_from.inside, most-sticks contour)
 
+      pub top_lent : length t₀ ≡ edge_count L.size → RunLent L table e (top_run runs top).end (top_run runs top).edges
+      top_lent exact = run_lent contour now.remaining.here top_from (now.same_length ∙ exact)
+
+      pub removed-small : removed + ((top_run runs top).edges - 1) ≤ 4190208
+      removed-small = omega (arith, counts-small, place-small)
+
       pub pending-passed : passes L table tolerance e (top_run runs top).edges ≡ true → {table' : List ℕ}
           → table' ≡ foldl (without L) table (between L e (top_run runs top).edges)
           → Pending L tolerance f n t₀ runs₀ table' runs (top - 1) (top_run runs top).end (p + (top_run runs top).edges) (removed + ((top_run runs top).edges - 1)) (tried + 1)
@@ -131,6 +138,9 @@ module _ {L : Layer} {f : Edge} {n : ℕ} (contour : HasSticks L f n) where
           }
 
       module _ (no-pass : passes L table tolerance e (top_run runs top).edges ≡ false) where
+        pub top_split : Split (top_run runs top).edges
+        top_split = split L table tolerance e (top_run runs top).edges no-pass
+
         pub room : top - 1 + 2 ≤ 22
         room = omega (arith, left-few contour tolerance t₀ (left_split contour tolerance t₀ with-top no-pass), waiting-length runs (top - 1))
 

@@ -1,21 +1,31 @@
 -- `held_contour` meets its contract. The invariant: the kept vertices counted so far and those that are left are all of them, and what is left
--- decides whether all drawn edges cross; the vertex that the walk is at is expected where it stands. `went` is the work on it.
+-- decides whether all drawn edges cross; the vertex that the walk is at is expected where it stands. `letter-kept` and `letter-none` are what
+-- its letter says of it, `done` the work on it.
 use mathlib.Core.Path.{◌≡◌, sym, ap, ◌∙◌}
-use mathlib.Core.Bool.{not}
-use Prim.Native.Nat.{◌+◌}
+use mathlib.Core.Bool.{true, false, not}
+use mathlib.Core.List.{List}
+use Prim.Native.Nat.{ℕ, ◌<◌}
 use native.Mathlib.Omega.{arith}
 use borrow.Author.Tests.{eq-eqb, ne_eqb}
-use lib.Dec.{eqb}
 use lib.ListN.{get_or}
-use Rattle.arith.specs.Booleans.{as_number}
-use Rattle.grid.specs.Layer.{layer_of}
+use Rattle.grid.specs.Layer.{Layer, layer_of}
 use Rattle.table.specs.Vertices.{kept_at}
-use Rattle.held.proofs.Asking.{Cleared, cleared-kept, cleared-none, counted-stick, counted-most}
+use Rattle.held.proofs.Asking.{Done, done-kept, done-none, counted-stick, counted-most}
 use Rattle.sheet.proofs.Contours.{less-left}
 use Rattle.reading.specs.Reading.{described}
+use Rattle.reading.specs.Places.{VerticesStand}
+use Rattle.reading.specs.declared.holding.Vertex.{Vertex}
 use Rattle.reading.proofs.Vertices.{place-within, kept_is}
-use Rattle.reading.proofs.Asking.{at-start, at-no, at_turn, at_last}
+use Rattle.reading.proofs.Asking.{CountedAt, at-start, at-no, at_turn, at_last}
 use Rattle.reading.proofs.holding.held_contour.Goals as goal
+
+module _ {L : Layer} {s : List ℕ} {first v : Vertex} {kept : ℕ} (stand : VerticesStand L s first) (at_v : CountedAt L s first v kept)
+    (bytes : (k : ℕ) → get_or s k 0 < 256) where
+  letter-kept : ¬ (get_or s v.place 0 ≡ 0x52) → kept_at L (described L s) v.stick ≡ true
+  letter-kept other = kept_is stand at_v.expected bytes ∙ ap not (ne_eqb _ _ other)
+
+  letter-none : get_or s v.place 0 ≡ 0x52 → kept_at L (described L s) v.stick ≡ false
+  letter-none letter = kept_is stand at_v.expected bytes ∙ ap not (eq-eqb _ _ letter)
 
 pub loop-size-init : goal.loop-size-init
 loop-size-init c = at-start c.requires
@@ -26,21 +36,15 @@ bounds-sheet-place c =
 
 pub held_edge-requires : goal.held_edge-requires
 held_edge-requires c =
-    let kept_here : (let a = c.args in
-    let L = layer_of a.size a.bitmap.now in
-    let v = c.loop-size.v in
-    kept_at L (described L a.sheet.now) v.stick ≡ not (eqb (get_or a.sheet.now v.place 0) 0x52)) =
-    kept_is c.requires c.loop-size.invariant.expected (λ k. (c.type_inv.sheet k).fits) in
-    record { vertices_stand = c.requires; vertex_expected = c.loop-size.invariant.expected; kept = kept_here ∙ ap not (ne_eqb _ _ c.if-sheet-place-ne82.true) }
+    record {
+      vertices_stand = c.requires;
+      vertex_expected = c.loop-size.invariant.expected;
+      kept = letter-kept c.requires c.loop-size.invariant (λ k. (c.type_inv.sheet k).fits) c.if-sheet-place-ne82.true;
+    }
 
 pub returns-then-not-held_edge : goal.returns-then-not-held_edge
 returns-then-not-held_edge c =
-    let kept_here : (let a = c.args in
-    let L = layer_of a.size a.bitmap.now in
-    let v = c.loop-size.v in
-    kept_at L (described L a.sheet.now) v.stick ≡ not (eqb (get_or a.sheet.now v.place 0) 0x52)) =
-    kept_is c.requires c.loop-size.invariant.expected (λ k. (c.type_inv.sheet k).fits) in
-    at-no c.requires.sound c.loop-size.invariant (kept_here ∙ ap not (ne_eqb _ _ c.if-sheet-place-ne82.true))
+    at-no c.requires.sound c.loop-size.invariant (letter-kept c.requires c.loop-size.invariant (λ k. (c.type_inv.sheet k).fits) c.if-sheet-place-ne82.true)
     (sym c.held_edge.ensures ∙ c.if-not-held_edge.true)
 
 pub overflow_add-kept : goal.overflow_add-kept
@@ -63,58 +67,28 @@ loop-size-smaller c =
 
 pub loop-size-preserved : goal.loop-size-preserved
 loop-size-preserved c =
-    let kept_here : (let a = c.args in
-    let L = layer_of a.size a.bitmap.now in
-    let v = c.loop-size.v in
-    kept_at L (described L a.sheet.now) v.stick ≡ not (eqb (get_or a.sheet.now v.place 0) 0x52)) =
-    kept_is c.requires c.loop-size.invariant.expected (λ k. (c.type_inv.sheet k).fits) in
-    let went : (let a = c.args in
-    let L = layer_of a.size a.bitmap.now in
-    let t = described L a.sheet.now in
-    let e = c.loop-size.v.stick in
-    Cleared L t e × (c.if-sheet-place-ne82.kept ≡ c.loop-size.kept + as_number (kept_at L t e))) =
-    let a = c.args in
-    let L = layer_of a.size a.bitmap.now in
-    let t = described L a.sheet.now in
-    let e = c.loop-size.v.stick in
+    let L = layer_of c.args.size c.args.bitmap.now in
+    let done : Done L (described L c.args.sheet.now) c.loop-size.v.stick c.loop-size.kept c.if-sheet-place-ne82.kept =
     elim c.if-sheet-place-ne82.branch [
       | goal.then-sheet-place-ne82+else-not-held_edge w ↦
-          let yes = kept_here ∙ ap not (ne_eqb _ _ w.if-sheet-place-ne82.true) in
-          let crossed = sym w.held_edge.ensures ∙ w.if-not-held_edge.false in
-          (cleared-kept L t e yes crossed, omega (arith, w.kept-is, ap as_number yes))
+          done-kept _ _ _ _ (letter-kept c.requires c.loop-size.invariant (λ k. (c.type_inv.sheet k).fits) w.if-sheet-place-ne82.true)
+          (sym w.held_edge.ensures ∙ w.if-not-held_edge.false) w.kept-is
       | goal.else-sheet-place-ne82 w ↦
-          let none = kept_here ∙ ap not (eq-eqb _ _ w.if-sheet-place-ne82.false) in
-          (cleared-none L t e none, omega (arith, w.kept-is, ap as_number none))
+          done-none _ _ _ _ (letter-none c.requires c.loop-size.invariant (λ k. (c.type_inv.sheet k).fits) w.if-sheet-place-ne82.false) w.kept-is
     ] in
-    let w = went in
-    at_turn c.requires.sound c.loop-size.invariant c.next_stick-stick.ensures w.0 w.1
+    at_turn c.requires.sound c.loop-size.invariant c.next_stick-stick.ensures done.0 done.1
     (sym c.same_edge.ensures ∙ c.if-same_edge.false)
 
 pub returns : goal.returns
 returns c =
-    let kept_here : (let a = c.args in
-    let L = layer_of a.size a.bitmap.now in
-    let v = c.loop-size.v in
-    kept_at L (described L a.sheet.now) v.stick ≡ not (eqb (get_or a.sheet.now v.place 0) 0x52)) =
-    kept_is c.requires c.loop-size.invariant.expected (λ k. (c.type_inv.sheet k).fits) in
-    let went : (let a = c.args in
-    let L = layer_of a.size a.bitmap.now in
-    let t = described L a.sheet.now in
-    let e = c.loop-size.v.stick in
-    Cleared L t e × (c.if-sheet-place-ne82.kept ≡ c.loop-size.kept + as_number (kept_at L t e))) =
-    let a = c.args in
-    let L = layer_of a.size a.bitmap.now in
-    let t = described L a.sheet.now in
-    let e = c.loop-size.v.stick in
+    let L = layer_of c.args.size c.args.bitmap.now in
+    let done : Done L (described L c.args.sheet.now) c.loop-size.v.stick c.loop-size.kept c.if-sheet-place-ne82.kept =
     elim c.if-sheet-place-ne82.branch [
       | goal.then-sheet-place-ne82+else-not-held_edge w ↦
-          let yes = kept_here ∙ ap not (ne_eqb _ _ w.if-sheet-place-ne82.true) in
-          let crossed = sym w.held_edge.ensures ∙ w.if-not-held_edge.false in
-          (cleared-kept L t e yes crossed, omega (arith, w.kept-is, ap as_number yes))
+          done-kept _ _ _ _ (letter-kept c.requires c.loop-size.invariant (λ k. (c.type_inv.sheet k).fits) w.if-sheet-place-ne82.true)
+          (sym w.held_edge.ensures ∙ w.if-not-held_edge.false) w.kept-is
       | goal.else-sheet-place-ne82 w ↦
-          let none = kept_here ∙ ap not (eq-eqb _ _ w.if-sheet-place-ne82.false) in
-          (cleared-none L t e none, omega (arith, w.kept-is, ap as_number none))
+          done-none _ _ _ _ (letter-none c.requires c.loop-size.invariant (λ k. (c.type_inv.sheet k).fits) w.if-sheet-place-ne82.false) w.kept-is
     ] in
-    let w = went in
-    at_last c.requires.sound c.loop-size.invariant c.next_stick-stick.ensures w.0 w.1
+    at_last c.requires.sound c.loop-size.invariant c.next_stick-stick.ensures done.0 done.1
     (sym c.same_edge.ensures ∙ c.if-same_edge.true)
