@@ -32,7 +32,7 @@ use Rattle.table.proofs.AllKept.{AllKept, all-kept-of}
 use Rattle.drawn.specs.Drawn.{vertex}
 use Rattle.drawn.proofs.Runs.{in-grid-near}
 use Rattle.offset.specs.Offset.{new_offset}
-use Rattle.smooth.specs.Smooth.{smoothed_at, Pass, passed, visit, pass_contour, contour_pass, Smoothable}
+use Rattle.smooth.specs.Smooth.{smoothed_at, Pass, passed, visit, pass_contour, contour_pass, Smoothable, SmoothableAt}
 use Rattle.smooth.specs.Visit.{offset_of, pinned_of, Visitable, Visited, PassMade}
 use Rattle.smooth.specs.declared.pass.Stepped.{Stepped}
 use Rattle.smooth.proofs.Steps.{visit-skips, visit-slides, visit-more, visit-kept, slid-here, neighbours-around}
@@ -41,6 +41,9 @@ pub smoothable-kept : {L : Layer} {t : List ℕ} → Smoothable L t → AllKept 
 smoothable-kept {L} {t} given = all-kept-of L t given.sound given.exact given.entries given.all_kept
 
 -- A stick, its entry and its neighbours
+
+pub lent-first : {L : Layer} {t : List ℕ} {f : Edge} → SmoothableAt L t f → LentAt L t f
+lent-first given = record { sound = given.table.sound; exact = given.table.exact; stick = given.stick }
 
 module _ {L : Layer} {t : List ℕ} {e : Edge} (given : LentAt L t e) where
   pub stick-near : NearEdge e
@@ -110,6 +113,12 @@ pub record NextVertex (L : Layer) (t : List ℕ) (e e' : Edge) (k' : ℕ) (q : P
   pub q_is : q ≡ position e' (offset_of t k')
   pub q_near : Near q
 
+-- by what the calls give: o is the offset of its entry
+pub next-vertex : {L : Layer} {e e' : Edge} {k' o : ℕ} {q : Position} (t : List ℕ) → e' ≡ next L e → k' ≡ number L.size e'
+    → o ≡ offset_of t k' → q ≡ position e' o → Near q → NextVertex L t e e' k' q
+next-vertex {e' = e'} t stick_is place_is offset-is q_is near =
+    record { stick_is = stick_is; place_is = place_is; q_is = q_is ∙ ap (position e') offset-is; q_near = near }
+
 -- A walk round the contour of f, begun with the table t₀, stands with t and the total n at e, whose entry is at k, the previous vertex being at p,
 -- and v vertices are visited: visiting what is left, from here, gives the pass over the whole contour.
 pub record PartVisited (L : Layer) (f : Edge) (t₀ t : List ℕ) (e : Edge) (k : ℕ) (p : Position) (n v : ℕ) : Type 0 where
@@ -141,6 +150,9 @@ module _ {L : Layer} (sound : Sound L) {f e : Edge} {t₀ t : List ℕ} {k n v :
   pub visits-here : LentAt L t e
   visits-here = record { sound = sound; exact = g.kept.whole; stick = due-one (walk_of L) (laws L sound) f e g.due }
 
+  pub visits-there : {e' : Edge} → e' ≡ next L e → LentAt L t e'
+  visits-there step = lent-next visits-here step
+
   old-is : offset_of t k ≡ offset_at L t e
   old-is = offset-is visits-here g.place_is
 
@@ -164,7 +176,7 @@ module _ {L : Layer} (sound : Sound L) {f e : Edge} {t₀ t : List ℕ} {k n v :
         }
 
     there : LentAt L t e'
-    there = lent-next visits-here ahead.stick_is
+    there = visits-there ahead.stick_is
 
     apart : k' ≢ number L.size f → same_edge e' f ≡ false
     apart differ = other-number L sound e' f there.stick g.due.start_one (λ i. differ (ahead.place_is ∙ i))
