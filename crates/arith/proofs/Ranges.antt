@@ -7,10 +7,13 @@ use native.Mathlib.Nat.{add-zero, add-suc, zero-add, add_assoc}
 use native.Mathlib.Numerals.{add-one}
 use native.Mathlib.Decide.{ℕ_discrete, dec_lt}
 use native.Mathlib.Omega.{arith}
+use borrow.Author.Tests.{lt-ltb, le-ltb, ltb-true, ltb-false}
+use lib.Dec.{ltb}
 use lib.ListN.{length, get_or, set, length-set}
 use lib.Seq.{get_or-set_same, get_or-set_other, ext_get_or}
 use Rattle.arith.proofs.Booleans.{one-le, both-sides}
-use Rattle.arith.specs.Ranges.{tabulate_from, tabulate, count, least_from, least, fill}
+use Rattle.std.specs.Prelude.{Option, Some, None}
+use Rattle.arith.specs.Ranges.{tabulate_from, tabulate, count, least_from, least, least_of, fill}
 
 -- Two ranges joined
 
@@ -128,6 +131,50 @@ pub least_from-same : (f g : ℕ → Bool) (i n : ℕ) → ((k : ℕ) → f k �
 unfolding least_from
 least_from-same f g i zero h = refl
 least_from-same f g i (suc n) h = rw (h i, least_from-same f g (suc i) n h)
+
+pub least_of-same : (f g : ℕ → Bool) (n : ℕ) → ((k : ℕ) → f k ≡ g k) → least_of f n ≡ least_of g n
+unfolding least_of
+least_of-same f g n h = rw (least_from-same f g 0 n h)
+
+-- a number that passes, none below it passing, is found; where none passes, none is
+module _ (f : ℕ → Bool) (n : ℕ) where
+  pub found-is : (k : ℕ) → k < n → f k ≡ true → ((j : ℕ) → j < k → f j ≡ false) → Some k ≡ least_of f n
+  unfolding least_of
+  found-is k u t b = rw (least-is f n k u t b, lt-ltb k n u)
+
+  pub found-none : ((j : ℕ) → j < n → f j ≡ false) → None ≡ least_of f n
+  unfolding least_of
+  found-none b = rw (least-none f n b, le-ltb n n (omega arith))
+
+  -- what is found passes, and none below it does; where none is found, none passes
+  pub record Found (k : ℕ) : Type 0 where
+    pub within : k < n
+    pub passes : f k ≡ true
+    pub before : (j : ℕ) → j < k → f j ≡ false
+
+  some-is : {x : Option ℕ} (k : ℕ) → x ≡ least_of f n → x ≡ Some k → (k ≡ least f n) × (k < n)
+  unfolding least_of
+  some-is k e s = both-sides (ltb (least f n) n)
+      (λ t. let found : Some k ≡ Some (least f n) = sym s ∙ e ∙ rw t in
+            let same : k ≡ least f n = cc in
+            (same, omega (arith, same, ltb-true (least f n) n t)))
+      (λ t. let none : ◌≡◌ {A = Option ℕ} (Some k) None = sym s ∙ e ∙ rw t in absurd cc)
+
+  pub found : {x : Option ℕ} {k : ℕ} → x ≡ least_of f n → x ≡ Some k → Found k
+  found {x} {k} e s =
+      let is = some-is k e s in
+      record {
+        within = is.1;
+        passes = rw is.0 (least_from-holds f 0 n (omega (arith, is.0, is.1)));
+        before = λ j l. least_from-below f 0 n j (omega arith) (omega (arith, is.0));
+      }
+
+  pub none-found : {x : Option ℕ} → x ≡ least_of f n → x ≡ None → (j : ℕ) → j < n → f j ≡ false
+  unfolding least_of
+  none-found e s j l = both-sides (ltb (least f n) n)
+      (λ t. let some : ◌≡◌ {A = Option ℕ} None (Some (least f n)) = sym s ∙ e ∙ rw t in absurd cc)
+      (λ t. least_from-below f 0 n j (omega arith) (omega (arith, ltb-false (least f n) n t)))
+
 
 -- Replacing a range
 

@@ -1,6 +1,6 @@
 -- Functions on the numbers below a bound: the list of their values, how many pass a test, the least that does, and a list in which a
 -- range of entries is replaced.
-use Rattle.std.specs.Prelude.{Bool, cond, List, [], ◌∷◌, ℕ, zero, suc, ◌+◌, set}
+use Rattle.std.specs.Prelude.{Bool, cond, ltb, Option, Some, None, List, [], ◌∷◌, ℕ, zero, suc, ◌+◌, set}
 use Rattle.arith.specs.Booleans.{as_number}
 
 -- n values of f, the first at i
@@ -25,6 +25,10 @@ least_from f i (suc n) = cond (f i) i (least_from f (suc i) n)
 -- the least number below n that passes the test, or n if none does
 abbrev pub least : (ℕ → Bool) → ℕ → ℕ
 least f n = least_from f 0 n
+
+-- the same as an option: none if none does
+unfoldable pub least_of : (ℕ → Bool) → ℕ → Option ℕ
+least_of f n = cond (ltb (least f n) n) (Some (least f n)) None
 
 -- the list t with the values of f at the n places from a on, as far as t reaches
 unfoldable pub fill : (ℕ → ℕ) → ℕ → ℕ → List ℕ → List ℕ

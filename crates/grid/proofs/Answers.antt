@@ -12,11 +12,10 @@ use Rattle.arith.proofs.Booleans.{both-sides, and_split}
 use Rattle.arith.specs.Ranges.{least}
 use Rattle.arith.proofs.Ranges.{least-is, least-none, least_from-below}
 use Rattle.grid.specs.Layer.{Layer}
-use Rattle.grid.specs.Questions.{number_of, first_no, ask, ask_each, in_range, sides_answer, length_answer, spare_set, spare_answer, border_in, border_at, border_answer, layer_questions, Sized, Whole, Sound}
+use Rattle.std.specs.Prelude.{Err}
+use Rattle.grid.specs.Questions.{Answer, Yes, No, number_of, first_no, ask, ask_each, in_range, sides_answer, length_answer, spare_set, spare_answer, border_in, border_at, border_answer, layer_questions, Sized, Whole, Sound}
 use Rattle.grid.specs.declared.layer.Size.{Size}
-use Rattle.grid.specs.declared.question.Refusal.{Refusal}
-use Rattle.grid.specs.declared.question.Answer.{Answer}
-use Rattle.grid.specs.declared.question.Answer.TheVariants.{Yes, No}
+use Rattle.grid.specs.declared.refusal.Refusal.{Refusal}
 
 pub no-not-yes : (q : Refusal) (p : ℕ) → No q p ≡ Yes → ⊥
 no-not-yes q p e = let z : ◌≡◌ {A = ℕ} 0 1 = cc in omega arith
@@ -58,7 +57,7 @@ asked q false e = absurd (no-not-yes q 0 e)
 
 pub first_no-yes : (a : Answer) (later : List Answer) → first_no (a ∷ later) ≡ Yes → (a ≡ Yes) × (first_no later ≡ Yes)
 first_no-yes Yes later e = (refl, e)
-first_no-yes (No q p) later e = absurd (no-not-yes q p e)
+first_no-yes (Err n) later e = absurd (no-not-yes n.question n.place e)
 
 -- asking the questions of a list one by one: x is what a question was answered
 pub first-no : {x a : Answer} (later : List Answer) → x ≡ a → {q : Refusal} {p : ℕ} → x ≡ No q p → x ≡ first_no (a ∷ later)
@@ -69,23 +68,23 @@ first-yes later e y = ap (λ (b : Answer). first_no (b ∷ later)) (sym y ∙ e)
 
 pub first-only : (a : Answer) → a ≡ first_no (a ∷ [])
 first-only Yes = refl
-first-only (No q p) = refl
+first-only (Err n) = refl
 
 -- and of two lists, one after the other
 pub append-no : (xs ys : List Answer) {q : Refusal} {p : ℕ} → first_no xs ≡ No q p → No q p ≡ first_no (xs ++ ys)
 append-no [] ys {q} {p} e = absurd (no-not-yes q p (sym e))
 append-no (Yes ∷ xs) ys e = append-no xs ys e
-append-no (No q p ∷ xs) ys e = sym e
+append-no (Err n ∷ xs) ys e = sym e
 
 pub append-yes : (xs ys : List Answer) → first_no xs ≡ Yes → first_no ys ≡ first_no (xs ++ ys)
 append-yes [] ys e = refl
 append-yes (Yes ∷ xs) ys e = append-yes xs ys e
-append-yes (No q p ∷ xs) ys e = absurd (no-not-yes q p e)
+append-yes (Err n ∷ xs) ys e = absurd (no-not-yes n.question n.place e)
 
 pub append-all : (xs ys : List Answer) → first_no (xs ++ ys) ≡ Yes → (first_no xs ≡ Yes) × (first_no ys ≡ Yes)
 append-all [] ys e = (refl, e)
 append-all (Yes ∷ xs) ys e = append-all xs ys e
-append-all (No q p ∷ xs) ys e = absurd (no-not-yes q p e)
+append-all (Err n ∷ xs) ys e = absurd (no-not-yes n.question n.place e)
 
 range-of : (n : ℕ) → in_range n ≡ true → (2 ≤ n) × (n ≤ 1024)
 range-of n h =

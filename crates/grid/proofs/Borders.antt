@@ -6,8 +6,9 @@ use native.Mathlib.Decide.{ℕ_discrete}
 use native.Mathlib.Omega.{arith}
 use borrow.Author.Tests.{eq-eqb, ne_eqb}
 use lib.Dec.{eqb}
-use Rattle.arith.specs.Ranges.{least}
-use Rattle.arith.proofs.Ranges.{least-is, least-none, least_from-same}
+use Rattle.std.specs.Prelude.{Some, None}
+use Rattle.arith.specs.Ranges.{least_of}
+use Rattle.arith.proofs.Ranges.{found-is, found-none, least_of-same}
 use Rattle.grid.specs.Layer.{Layer, sample, sample_in}
 use Rattle.grid.specs.Questions.{on_border, border_in, Sized}
 
@@ -49,22 +50,25 @@ between {L} {r} inner c end = elim (ℕ_discrete c 0) [
 ]
 
 module _ (L : Layer) (r : ℕ) where
-  pub lowest-bottom : r ≡ 0 → least (sample_in L r) L.size.width ≡ least (border_in L r) L.size.width
-  lowest-bottom e = least_from-same (sample_in L r) (border_in L r) 0 L.size.width (λ k. sym (on-border L k r (bottom L k r e)))
+  outer : ((k : ℕ) → on_border L k r ≡ true) → least_of (sample_in L r) L.size.width ≡ least_of (border_in L r) L.size.width
+  outer on = least_of-same (sample_in L r) (border_in L r) L.size.width (λ k. sym (on-border L k r (on k)))
 
-  pub lowest-top : r ≡ L.size.height - 1 → least (sample_in L r) L.size.width ≡ least (border_in L r) L.size.width
-  lowest-top e = least_from-same (sample_in L r) (border_in L r) 0 L.size.width (λ k. sym (on-border L k r (top L k r e)))
+  pub lowest-bottom : r ≡ 0 → least_of (sample_in L r) L.size.width ≡ least_of (border_in L r) L.size.width
+  lowest-bottom e = outer (λ k. bottom L k r e)
+
+  pub lowest-top : r ≡ L.size.height - 1 → least_of (sample_in L r) L.size.width ≡ least_of (border_in L r) L.size.width
+  lowest-top e = outer (λ k. top L k r e)
 
   module _ (sized : Sized L.size) where
-    pub lowest-west : sample L 0 r ≡ true → 0 ≡ least (border_in L r) L.size.width
+    pub lowest-west : sample L 0 r ≡ true → Some 0 ≡ least_of (border_in L r) L.size.width
     lowest-west h =
-        sym (least-is (border_in L r) L.size.width 0 (omega (arith, sized)) (on-border L 0 r (west L 0 r refl) ∙ h) (λ j l. absurd (omega arith)))
+        found-is (border_in L r) L.size.width 0 (omega (arith, sized)) (on-border L 0 r (west L 0 r refl) ∙ h) (λ j l. absurd (omega arith))
 
-    pub lowest-east : Inner L r → sample L (L.size.width - 1) r ≡ true → L.size.width - 1 ≡ least (border_in L r) L.size.width
+    pub lowest-east : Inner L r → sample L (L.size.width - 1) r ≡ true → Some (L.size.width - 1) ≡ least_of (border_in L r) L.size.width
     lowest-east inner h =
         let e = L.size.width - 1 in
-        sym (least-is (border_in L r) L.size.width e (omega (arith, sized)) (on-border L e r (east L e r refl) ∙ h)
-        (λ j l. between inner j (λ e. absurd (omega arith))))
+        found-is (border_in L r) L.size.width e (omega (arith, sized)) (on-border L e r (east L e r refl) ∙ h)
+        (λ j l. between inner j (λ e. absurd (omega arith)))
 
-  pub lowest-none : Inner L r → sample L (L.size.width - 1) r ≡ false → L.size.width ≡ least (border_in L r) L.size.width
-  lowest-none inner h = sym (least-none (border_in L r) L.size.width (λ j l. between inner j (λ e. rw e h)))
+  pub lowest-none : Inner L r → sample L (L.size.width - 1) r ≡ false → None ≡ least_of (border_in L r) L.size.width
+  lowest-none inner h = found-none (border_in L r) L.size.width (λ j l. between inner j (λ e. rw e h))

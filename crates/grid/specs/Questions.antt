@@ -1,11 +1,20 @@
 -- The questions put to a call: how a refusal is numbered, how a list of questions is asked, and questions 1 to 4.
-use Rattle.std.specs.Prelude.{◌≡◌, Bool, false, cond, ◌&&◌, ◌||◌, List, [], ◌∷◌, ℕ, ◌-◌, ◌*◌, ◌/◌, ◌%◌, ◌^◌, ◌≤◌, ◌<◌, leb, ltb, eqb, length, get_or}
+use Rattle.std.specs.Prelude.{◌≡◌, Result, Ok, Err, Bool, false, cond, ◌&&◌, ◌||◌, List, [], ◌∷◌, ℕ, ◌-◌, ◌*◌, ◌/◌, ◌%◌, ◌^◌, ◌≤◌, ◌<◌, leb, ltb, eqb, length, get_or}
 use Rattle.arith.specs.Ranges.{least}
 use Rattle.grid.specs.Layer.{Layer, stride, sample}
 use Rattle.grid.specs.declared.layer.Size.{Size}
-use Rattle.grid.specs.declared.question.Refusal.{Refusal}
-use Rattle.grid.specs.declared.question.Answer.{Answer}
-use Rattle.grid.specs.declared.question.Answer.TheVariants.{Yes, No}
+use Rattle.grid.specs.declared.refusal.Refusal.{Refusal}
+use Rattle.grid.specs.declared.refusal.Refused.{Refused}
+
+-- the answer to a question: yes, or no with the question and the place that goes with it
+abbrev pub Answer : Type 0
+Answer = Result (Unit {0}) Refused
+
+pattern abbrev pub Yes : Answer
+Yes = Ok tt
+
+abbrev pub No : Refusal → ℕ → Answer
+No q place = Err (record { question = q; place = place })
 
 -- the numbers of the list 'Questions put to a call', and "16, a slide or removal of a pinned vertex, after question 9
 -- and before 10" (Note 5)
@@ -31,12 +40,12 @@ number_of Refusal.VertexPinned = 16
 abbrev pub first_no : List Answer → Answer
 first_no [] = Yes
 first_no (Yes ∷ later) = first_no later
-first_no (No q place ∷ later) = No q place
+first_no (Err e ∷ later) = Err e
 
 -- a call's result where every question is answered yes, else its refusal
 abbrev pub if_all_yes {ℓ} : {A : Type ℓ} → Answer → (Refusal → ℕ → A) → A → A
 if_all_yes Yes refused done = done
-if_all_yes (No q place) refused done = refused q place
+if_all_yes (Err e) refused done = refused e.question e.place
 
 -- a question with place 0, answered yes if the test holds
 abbrev pub ask : Refusal → Bool → Answer

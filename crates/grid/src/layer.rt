@@ -17,14 +17,8 @@ pub fn stride_of(size: Size) -> usize
     (size.width + 7) / 8
 }
 
-pub fn widen(x: u8) -> usize
-    ensures { result ≡ x }
-{
-    x as usize
-}
-
 // Byte `at` of row `row`.
-pub fn row_byte(size: Size, bitmap: &[u8], at: usize, row: usize) -> u8
+pub fn byte_in(size: Size, bitmap: &[u8], at: usize, row: usize) -> u8
     requires whole { Whole (layer_of size bitmap.now) }
     requires at_bound { at < stride size }
     requires row_lt_height { row < size.height }
@@ -35,12 +29,12 @@ pub fn row_byte(size: Size, bitmap: &[u8], at: usize, row: usize) -> u8
 }
 
 // Whether the sample is inside.
-pub fn is_inside(size: Size, bitmap: &[u8], column: usize, row: usize) -> bool
+pub fn sample_in(size: Size, bitmap: &[u8], column: usize, row: usize) -> bool
     requires whole { Whole (layer_of size bitmap.now) }
     requires column_lt_width { column < size.width }
     requires row_lt_height { row < size.height }
     ensures { result ≡ sample (layer_of size bitmap.now) column row }
 {
-    let byte = widen(row_byte(size, bitmap, column / 8, row));
+    let byte = byte_in(size, bitmap, column / 8, row);
     (byte >> (column % 8)) % 2 == 1
 }

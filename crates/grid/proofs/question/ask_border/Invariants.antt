@@ -1,4 +1,3 @@
-use Prim.Native.Nat.{◌-◌}
 use Rattle.grid.specs.Layer.{layer_of}
 use Rattle.grid.specs.Questions.{border_at}
 use Rattle.grid.proofs.Asking.{RowsPassed}
@@ -6,6 +5,3 @@ use Rattle.grid.proofs.question.ask_border.Given as goal
 
 abbrev pub invariant-loop-row : goal.invariant-loop-row
 invariant-loop-row l = RowsPassed (layer_of l.size l.bitmap) border_at l.size.width l.row
-
-abbrev pub decreases-loop-row : goal.decreases-loop-row
-decreases-loop-row l = l.height - l.row

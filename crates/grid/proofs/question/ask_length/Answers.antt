@@ -17,4 +17,4 @@ returns-then-bitmap-size c = let x = c.if-bitmap-size.true in rw (eq-eqb _ _ (rw
 
 pub returns-else-bitmap-size : goal.returns-else-bitmap-size
 unfolding length_answer
-returns-else-bitmap-size c = let x = c.if-bitmap-size.false in rw (ne_eqb _ _ (rw c.stride_of.ensures at x))
+returns-else-bitmap-size c = let x = c.if-bitmap-size.false in rw (c.at.ensures, ne_eqb _ _ (rw c.stride_of.ensures at x))

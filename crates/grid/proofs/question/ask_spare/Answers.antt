@@ -9,7 +9,7 @@ loop-row-init c = rows_start
 
 pub returns-then-spare_in : goal.returns-then-spare_in
 returns-then-spare_in c =
-    rw c.row_end.ensures
+    rw (c.at.ensures, c.row_end.ensures)
     (spare-here c.requires c.loop-row.invariant (λ i. (c.type_inv.bitmap i).fits) c.loop-row-test.true
     (sym c.spare_in.ensures ∙ c.if-spare_in.true))
 
