@@ -8,7 +8,6 @@ use borrow.Author.Tests.{ltb-false, lt-ltb, le-ltb}
 use lib.Arith.{digits_mod}
 use lib.Bits.{bit_xor}
 use lib.Dec.{eqb, ltb}
-use lib.ListN.{get_or}
 use Rattle.grid.specs.Layer.{Layer, stride, row_byte, bit, sample, follows}
 use Rattle.grid.specs.Edges.{is_stick, StickBits}
 use Rattle.grid.specs.Questions.{Whole, Sound}
@@ -50,13 +49,13 @@ sample-bit L at b r h =
     let m : (8 * at + b) % 8 ≡ b = omega arith in
     rw (d, m)
 
-module _ (L : Layer) (whole : Whole L) (bytes : (i : ℕ) → get_or L.bitmap i 0 < 256) (at r : ℕ) (at_less : at < stride L.size) where
+module _ (L : Layer) (whole : Whole L) (at r : ℕ) (byte : row_byte L at r < 256) (at_less : at < stride L.size) where
   -- the byte moved down by one sample, for the two ways in which it is made
   follows-inner : (y b : ℕ) → b < 7 → bit (row_byte L at r / 2 + 128 * (y % 2)) b ≡ follows L (8 * at + b) r
   follows-inner y b h =
       let next : 8 * at + b + 1 ≡ 8 * at + (b + 1) = omega arith in
       let less : 8 * at + b + 1 < 8 * stride L.size = omega arith in
-      bit_shifted (row_byte L at r) y b (bytes (r * stride L.size + at)) h
+      bit_shifted (row_byte L at r) y b byte h
       ∙ sym (sample-bit L at (b + 1) r (omega arith))
       ∙ rw (lt-ltb (8 * at + b + 1) (8 * stride L.size) less, next)
 
@@ -64,14 +63,14 @@ module _ (L : Layer) (whole : Whole L) (bytes : (i : ℕ) → get_or L.bitmap i 
   follows-carried h =
       let next : 8 * at + 7 + 1 ≡ 8 * (at + 1) + 0 = omega arith in
       let less : 8 * at + 7 + 1 < 8 * stride L.size = omega arith in
-      bit-carried (row_byte L at r) (row_byte L (at + 1) r) (bytes (r * stride L.size + at))
+      bit-carried (row_byte L at r) (row_byte L (at + 1) r) byte
       ∙ sym (sample-bit L (at + 1) 0 r (omega arith))
       ∙ rw (lt-ltb (8 * at + 7 + 1) (8 * stride L.size) less, next)
 
   follows-none : stride L.size ≤ at + 1 → bit (row_byte L at r / 2) 7 ≡ follows L (8 * at + 7) r
   unfolding bit
   follows-none h =
-      let none : row_byte L at r / 2 / 2 ^ 7 % 2 ≡ 0 = omega (arith, bytes (r * stride L.size + at)) in
+      let none : row_byte L at r / 2 / 2 ^ 7 % 2 ≡ 0 = omega (arith, byte) in
       let past : 8 * stride L.size ≤ 8 * at + 7 + 1 = omega arith in
       rw (none, le-ltb (8 * at + 7 + 1) (8 * stride L.size) past)
 

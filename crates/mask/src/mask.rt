@@ -1,38 +1,36 @@
 // The sticks among eight edges of a row at once: a row's byte against its shifted self for the horizontal ones, and against the next
 // row's for the vertical ones.
 ghost use Rattle.std.specs.Prelude.{◌≡◌, ℕ, ◌+◌, ◌*◌, ◌≤◌, ◌<◌};
-ghost use Rattle.grid.specs.Layer.{layer_of, stride, bit, follows};
+ghost use Rattle.grid.specs.Layer.{stride, bit, follows};
 ghost use Rattle.grid.specs.Edges.{edge_rows, StickBits};
-ghost use Rattle.grid.specs.Questions.{Whole, Sound};
+ghost use Rattle.grid.specs.Seen.{seen};
 
-use grid::{Size, row_byte, stride_of};
+use grid::{Layer, row_byte, stride_of};
 
 // The byte of a row moved down by one sample: bit b is the sample after the one that bit b of the row's byte is.
-fn shifted_byte(size: Size, bitmap: &[u8], at: usize, row: usize) -> u8
-    requires whole { Whole (layer_of size bitmap.now) }
-    requires at_bound { at < stride size }
-    requires row_lt_height { row < size.height }
-    ensures { (b : ℕ) → b < 8 → bit result b ≡ follows (layer_of size bitmap.now) (8 * at + b) row }
+fn shifted_byte(layer: Layer, at: usize, row: usize) -> u8
+    requires at_bound { at < stride layer.size }
+    requires row_lt_height { row < layer.size.height }
+    ensures { (b : ℕ) → b < 8 → bit result b ≡ follows (seen layer.entry) (8 * at + b) row }
 {
-    let here = row_byte(size, bitmap, at, row) / 2;
-    if at + 1 < stride_of(size) {
-        return here + 128 * (row_byte(size, bitmap, at + 1, row) % 2);
+    let here = row_byte(layer, at, row) / 2;
+    if at + 1 < stride_of(layer.size) {
+        return here + 128 * (row_byte(layer, at + 1, row) % 2);
     }
     here
 }
 
 // A one for each stick among the edges of a kind in the columns 8 × at to 8 × at + 7 of a row.
-pub fn stick_byte(size: Size, bitmap: &[u8], vertical: bool, at: usize, row: usize) -> u8
-    requires sound { Sound (layer_of size bitmap.now) }
-    requires at_bound { at < stride size }
-    requires row_bound { row < edge_rows size vertical }
-    ensures { StickBits (layer_of size bitmap.now) vertical at row result }
+pub fn stick_byte(layer: Layer, vertical: bool, at: usize, row: usize) -> u8
+    requires at_bound { at < stride layer.size }
+    requires row_bound { row < edge_rows layer.size vertical }
+    ensures { StickBits (seen layer.entry) vertical at row result }
 {
-    let here = row_byte(size, bitmap, at, row);
+    let here = row_byte(layer, at, row);
     if vertical {
-        return here ^ row_byte(size, bitmap, at, row + 1);
+        return here ^ row_byte(layer, at, row + 1);
     }
-    here ^ shifted_byte(size, bitmap, at, row)
+    here ^ shifted_byte(layer, at, row)
 }
 
 // How many of the eight edges from a column on there are.
@@ -40,9 +38,5 @@ pub fn run_length(columns: usize, column: usize) -> usize
     requires { column < columns }
     ensures { (result ≤ 8) × (column + result ≤ columns) × (1 ≤ result) × (result < 8 → column + result ≡ columns) }
 {
-    if columns - column < 8 {
-        columns - column
-    } else {
-        8
-    }
+    (columns - column).min(8)
 }

@@ -2,13 +2,13 @@
 // walked back. The two corners at that stick are known from the direction, and the two across the cell are asked. Each case looks up the
 // cell's own pattern, written as its corners ne, nw, se and sw: a constant, so that the compiler folds the look.
 ghost use Rattle.std.specs.Prelude.{◌≡◌, ◌<◌};
-ghost use Rattle.grid.specs.Layer.{layer_of};
+ghost use Rattle.grid.specs.Seen.{seen};
 ghost use Rattle.step.specs.Cells.{linked_in, edge_on};
 ghost use Rattle.step.specs.Turns.{Entered, leaving};
 ghost use Rattle.step.specs.declared.cell.Side.TheVariants.{South, East, North, West};
 
 use super::cell::{CellSide, Side, edge_of, linked_in};
-use grid::{Edge, Size, is_inside};
+use grid::{Edge, Layer, is_inside};
 
 // The edge that is linked to a side of a cell with this pattern.
 fn leave(column: usize, row: usize, pattern: usize, side: Side) -> Edge
@@ -25,12 +25,12 @@ fn leave(column: usize, row: usize, pattern: usize, side: Side) -> Edge
 }
 
 // To the north: sw is on the left, se on the right.
-pub fn from_south(size: Size, bitmap: &[u8], column: usize, row: usize, left: bool) -> Edge
-    requires { Entered (layer_of size bitmap.now) column row South left }
-    ensures { result ≡ leaving (layer_of size bitmap.now) column row South }
+pub fn from_south(layer: Layer, column: usize, row: usize, left: bool) -> Edge
+    requires { Entered (seen layer) column row South left }
+    ensures { result ≡ leaving (seen layer.entry) column row South }
 {
-    let nw = is_inside(size, bitmap, column, row + 1);
-    let ne = is_inside(size, bitmap, column + 1, row + 1);
+    let nw = is_inside(layer, column, row + 1);
+    let ne = is_inside(layer, column + 1, row + 1);
     if left {
         if nw {
             if ne {
@@ -56,12 +56,12 @@ pub fn from_south(size: Size, bitmap: &[u8], column: usize, row: usize, left: bo
 }
 
 // To the west: se is on the left, ne on the right.
-pub fn from_east(size: Size, bitmap: &[u8], column: usize, row: usize, left: bool) -> Edge
-    requires { Entered (layer_of size bitmap.now) column row East left }
-    ensures { result ≡ leaving (layer_of size bitmap.now) column row East }
+pub fn from_east(layer: Layer, column: usize, row: usize, left: bool) -> Edge
+    requires { Entered (seen layer) column row East left }
+    ensures { result ≡ leaving (seen layer.entry) column row East }
 {
-    let sw = is_inside(size, bitmap, column, row);
-    let nw = is_inside(size, bitmap, column, row + 1);
+    let sw = is_inside(layer, column, row);
+    let nw = is_inside(layer, column, row + 1);
     if left {
         if sw {
             if nw {
@@ -87,12 +87,12 @@ pub fn from_east(size: Size, bitmap: &[u8], column: usize, row: usize, left: boo
 }
 
 // To the south: ne is on the left, nw on the right.
-pub fn from_north(size: Size, bitmap: &[u8], column: usize, row: usize, left: bool) -> Edge
-    requires { Entered (layer_of size bitmap.now) column row North left }
-    ensures { result ≡ leaving (layer_of size bitmap.now) column row North }
+pub fn from_north(layer: Layer, column: usize, row: usize, left: bool) -> Edge
+    requires { Entered (seen layer) column row North left }
+    ensures { result ≡ leaving (seen layer.entry) column row North }
 {
-    let sw = is_inside(size, bitmap, column, row);
-    let se = is_inside(size, bitmap, column + 1, row);
+    let sw = is_inside(layer, column, row);
+    let se = is_inside(layer, column + 1, row);
     if left {
         if sw {
             if se {
@@ -118,12 +118,12 @@ pub fn from_north(size: Size, bitmap: &[u8], column: usize, row: usize, left: bo
 }
 
 // To the east: nw is on the left, sw on the right.
-pub fn from_west(size: Size, bitmap: &[u8], column: usize, row: usize, left: bool) -> Edge
-    requires { Entered (layer_of size bitmap.now) column row West left }
-    ensures { result ≡ leaving (layer_of size bitmap.now) column row West }
+pub fn from_west(layer: Layer, column: usize, row: usize, left: bool) -> Edge
+    requires { Entered (seen layer) column row West left }
+    ensures { result ≡ leaving (seen layer.entry) column row West }
 {
-    let se = is_inside(size, bitmap, column + 1, row);
-    let ne = is_inside(size, bitmap, column + 1, row + 1);
+    let se = is_inside(layer, column + 1, row);
+    let ne = is_inside(layer, column + 1, row + 1);
     if left {
         if se {
             if ne {

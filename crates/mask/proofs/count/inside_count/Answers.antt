@@ -11,11 +11,11 @@ loop-row-init c = counted_none
 pub overflow_add-total : goal.overflow_add-total
 overflow_add-total c =
     let room = counted-room c.loop-row.invariant c.loop-row-test.true _ c.inside_in_row-total.ensures in
-    omega (arith, room, samples-small _ c.requires.whole.sized)
+    omega (arith, room, samples-small _ c.args.layer.sound.whole.sized)
 
 pub loop-row-preserved : goal.loop-row-preserved
 loop-row-preserved c =
-    inside-rows c.requires c.loop-row.invariant c.loop-row-test.true c.inside_in_row-total.ensures
+    inside-rows c.args.layer.sound c.loop-row.invariant c.loop-row-test.true c.inside_in_row-total.ensures
 
 pub returns : goal.returns
 returns c = counted-all c.loop-row.invariant (omega arith)

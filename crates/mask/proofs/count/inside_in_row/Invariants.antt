@@ -1,10 +1,7 @@
-use Prim.Native.Nat.{◌-◌}
 use Rattle.arith.proofs.Counting.{CountedTo}
-use Rattle.grid.specs.Layer.{layer_of, stride, sample_in}
+use Rattle.grid.specs.Seen.{seen}
+use Rattle.grid.specs.Layer.{stride, sample_in}
 use Rattle.mask.proofs.count.inside_in_row.Given as goal
 
 abbrev pub invariant-loop-at : goal.invariant-loop-at
-invariant-loop-at l = CountedTo (sample_in (layer_of l.size l.bitmap) l.row) 8 (stride l.size) l.at l.total
-
-abbrev pub decreases-loop-at : goal.decreases-loop-at
-decreases-loop-at l = l.bytes - l.at
+invariant-loop-at l = CountedTo (sample_in (seen l.layer) l.row) 8 (stride l.layer.size) l.at l.total

@@ -1,20 +1,15 @@
 -- `shifted_byte` meets its contract.
-use Rattle.grid.specs.Layer.{layer_of}
 use Rattle.mask.proofs.Masks.{follows-joined, follows-ended}
 use Rattle.mask.proofs.mask.shifted_byte.Goals as goal
 
 pub returns-then-at-stride_of : goal.returns-then-at-stride_of
 returns-then-at-stride_of c =
-    let a = c.args in
-    let L = layer_of a.size a.bitmap.now in
-    let given = c.requires in
+    let byte = rw c.row_byte-here.ensures at c.row_byte-here.type_inv in
     rw (c.row_byte-here.ensures, c.row_byte.ensures)
-    (follows-joined L given.whole (λ i. (c.type_inv.bitmap i).fits) a.at a.row given.at_bound (rw c.stride_of.ensures at c.if-at-stride_of.true))
+    (follows-joined _ c.args.layer.sound.whole _ _ byte c.requires.at_bound (rw c.stride_of.ensures at c.if-at-stride_of.true))
 
 pub returns : goal.returns
 returns c =
-    let a = c.args in
-    let L = layer_of a.size a.bitmap.now in
-    let given = c.requires in
+    let byte = rw c.row_byte-here.ensures at c.row_byte-here.type_inv in
     rw c.row_byte-here.ensures
-    (follows-ended L given.whole (λ i. (c.type_inv.bitmap i).fits) a.at a.row given.at_bound (rw c.stride_of.ensures at c.if-at-stride_of.false))
+    (follows-ended _ c.args.layer.sound.whole _ _ byte c.requires.at_bound (rw c.stride_of.ensures at c.if-at-stride_of.false))
