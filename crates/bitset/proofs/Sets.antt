@@ -1,21 +1,24 @@
 -- Sets of numbers, one bit each: what putting a number in or taking it out does to every number, and what counting and searching give.
 use mathlib.Core.Path.{◌≡◌, refl, ap, sym, ◌∙◌}
 use mathlib.Core.Logic.{◌≢◌}
-use mathlib.Core.Bool.{Bool, true, false, xor, or-true, or-false}
+use mathlib.Core.Bool.{Bool, true, false, cond, xor, or-true, or-false}
 use mathlib.Core.List.{List}
 use Prim.Native.Nat.{ℕ, ◌+◌, ◌-◌, ◌*◌, ◌/◌, ◌%◌, ◌^◌, ◌≤◌, ◌<◌, min}
 use native.Mathlib.Decide.{ℕ_discrete, dec_lt}
 use native.Mathlib.Omega.{arith}
+use borrow.Author.Tests.{lt-ltb, le-ltb}
 use lib.Bits.{bit_or, bit_xor}
+use lib.Dec.{ltb}
 use lib.ListN.{length, get_or, set, length-set, replicate, length-replicate, get_or-replicate, get_or-eq_default}
 use lib.Seq.{get_or-set_same, get_or-set_other}
+use Rattle.std.specs.Prelude.{Some, None}
 use Rattle.arith.specs.Ranges.{count, least, least_from}
 use Rattle.arith.proofs.Ranges.{least_from-is, least_from-none, least_from-le, least_from-below, least_from-holds}
 use Rattle.arith.proofs.Counting.{CountedTo, counted-turn}
 use Rattle.arith.proofs.Finite.{least-from}
 use Rattle.grid.specs.Layer.{bit}
 use Rattle.grid.proofs.Bits.{bit-xor, bit-or, bit-power, bit-power-other, bit-zero}
-use Rattle.bitset.specs.Sets.{words, set_bits, has, next_in, Empty, with_number, without_number}
+use Rattle.bitset.specs.Sets.{words, set_bits, has, next_in, next_of, Empty, with_number, without_number}
 
 -- a word stored: the numbers of that word are read from it, and no other changes
 has-stored : (t : List ℕ) (n x : ℕ) → n / 64 < length t → has (set t (n / 64) x) n ≡ bit x (n % 64)
@@ -137,6 +140,24 @@ least-capped f from end n h l t none = elim (dec_lt n end) [
   | no g ↦ omega (arith, least_from-none f from (end - from) (λ j a b. none j a (omega arith)))
 ]
 
+-- and so as an option
+next-some : (t : List ℕ) (from end n : ℕ) → min n end ≡ next_in t from end → cond (ltb n end) (Some n) None ≡ next_of t from end
+unfolding next_of
+next-some t from end n e = elim (dec_lt n end) [
+  | yes y ↦ let same : next_in t from end ≡ n = omega (arith, e) in rw (same, lt-ltb n end y)
+  | no g ↦
+      let same : next_in t from end ≡ end = omega (arith, e) in
+      rw (same, le-ltb n end (omega arith), le-ltb end end (omega arith))
+]
+
+next-none : (t : List ℕ) (from end : ℕ) → end ≡ next_in t from end → None ≡ next_of t from end
+unfolding next_of
+next-none t from end e = rw (sym e, le-ltb end end (omega arith))
+
+pub search-none : (t : List ℕ) {from end : ℕ} → from ≡ end → None ≡ next_of t from end
+search-none t {from} {end} e =
+    next-none t from end (sym (least_from-none (has t) from (end - from) (λ j l u. absurd (omega arith)) ∙ omega arith))
+
 -- A search word by word: no number from `from` on and before the word is in the set
 
 pub record Searched (t : List ℕ) (from word : ℕ) : Type 0 where
@@ -150,22 +171,23 @@ module _ (t : List ℕ) {from end : ℕ} (range : from < end) {low : ℕ}
   below : (j : ℕ) → from ≤ j → j < 64 * (from / 64) + low → has t j ≡ false
   below j l u = word_none t (from / 64) (from % 64) low lowest (omega arith) j (omega arith) u
 
-  pub search-first : low < 64 → min (64 * (from / 64) + low) end ≡ next_in t from end
-  search-first some =
+  pub search-first : {n : ℕ} → n ≡ 64 * (from / 64) + low → low < 64 → cond (ltb n end) (Some n) None ≡ next_of t from end
+  search-first {n} e some =
       let found = word-has t (from / 64) (from % 64) low lowest (omega arith) some in
-      least-capped (has t) from end (64 * (from / 64) + low) (omega arith) (omega arith) found.1 below
+      next-some t from end n (rw e (least-capped (has t) from end (64 * (from / 64) + low) (omega arith) (omega arith) found.1 below))
 
   pub search-start : end ≤ set_bits → 64 ≤ low → Searched t from (from / 64 + 1)
   search-start fits none = record { after = omega arith; within = omega arith; none = λ j l u. below j l (omega arith) }
 
 module _ {t : List ℕ} {from word : ℕ} (s : Searched t from word) {end : ℕ} where
-  pub search-here : from ≤ end → {z : ℕ} → (z ≡ least (bit (get_or t word 0)) 64) × (z < 64) → min (64 * word + z) end ≡ next_in t from end
+  pub search-here : from ≤ end → {z : ℕ} → (z ≡ least (bit (get_or t word 0)) 64) × (z < 64)
+      → cond (ltb (64 * word + z) end) (Some (64 * word + z)) None ≡ next_of t from end
   search-here range {z} lowest =
-      least-capped (has t) from end (64 * word + z) range (omega (arith, s.after)) (word-has t word 0 z lowest.0 (omega arith) lowest.1).1
+      next-some t from end (64 * word + z) (least-capped (has t) from end (64 * word + z) range (omega (arith, s.after)) (word-has t word 0 z lowest.0 (omega arith) lowest.1).1
       (λ j l u. elim (dec_lt j (64 * word)) [
         | yes b ↦ s.none j l b
         | no g ↦ word_none t word 0 z lowest.0 (omega arith) j (omega arith) u
-      ])
+      ]))
 
   pub search-turn : end ≤ set_bits → 64 * word < end → get_or t word 0 ≡ 0 → Searched t from (word + 1)
   search-turn fits less empty =
@@ -182,5 +204,5 @@ module _ {t : List ℕ} {from word : ℕ} (s : Searched t from word) {end : ℕ}
             ];
       }
 
-  pub search-last : from ≤ end → end ≤ 64 * word → end ≡ next_in t from end
-  search-last range all = sym (least_from-none (has t) from (end - from) (λ j l u. s.none j l (omega arith)) ∙ omega arith)
+  pub search-last : from ≤ end → end ≤ 64 * word → None ≡ next_of t from end
+  search-last range all = next-none t from end (sym (least_from-none (has t) from (end - from) (λ j l u. s.none j l (omega arith)) ∙ omega arith))

@@ -63,13 +63,19 @@ lowest-none x s l e =
     let q : s + (j - s) ≡ j = omega arith in
     sym (ap (bit x) q) ∙ sym (bit-shift x s (j - s)) ∙ ap (λ (y : ℕ). bit y (j - s)) e ∙ bit-zero (j - s)) ∙ omega arith)
 
-pub lowest-some : (x s z : ℕ) → x < 2 ^ 64 → z ≡ least (bit (x / 2 ^ s)) 64 → z < 64 → s + z ≡ least_from (bit x) s (64 - s)
-lowest-some x s z l e h =
-    let set : bit x (s + z) ≡ true =
-    sym (bit-shift x s z) ∙ rw (sym e) at (least_from-holds (bit (x / 2 ^ s)) 0 64 (omega (arith, e))) in
-    let within : s + z < 64 =
-    elim (dec_lt (s + z) 64) [ yes y ↦ y | no g ↦ absurd (true≢false (sym set ∙ bit-end 64 x (s + z) l (omega arith))) ] in
-    sym (least_from-is (bit x) s (64 - s) (s + z) (omega arith) (omega arith) set (λ j a b.
-    let q : s + (j - s) ≡ j = omega arith in
-    sym (ap (bit x) q) ∙ sym (bit-shift x s (j - s))
-    ∙ least_from-below (bit (x / 2 ^ s)) 0 64 (j - s) (omega arith) (omega (arith, e))))
+module _ (x s z : ℕ) (l : x < 2 ^ 64) (e : z ≡ least (bit (x / 2 ^ s)) 64) (h : z < 64) where
+  lowest-set : bit x (s + z) ≡ true
+  lowest-set = sym (bit-shift x s z) ∙ rw (sym e) at (least_from-holds (bit (x / 2 ^ s)) 0 64 (omega (arith, e)))
+
+  pub lowest-within : s + z < 64
+  lowest-within = elim (dec_lt (s + z) 64) [
+    | yes y ↦ y
+    | no g ↦ absurd (true≢false (sym lowest-set ∙ bit-end 64 x (s + z) l (omega arith)))
+  ]
+
+  pub lowest-some : s + z ≡ least_from (bit x) s (64 - s)
+  lowest-some =
+      sym (least_from-is (bit x) s (64 - s) (s + z) (omega arith) (omega (arith, lowest-within)) lowest-set (λ j a b.
+      let q : s + (j - s) ≡ j = omega arith in
+      sym (ap (bit x) q) ∙ sym (bit-shift x s (j - s))
+      ∙ least_from-below (bit (x / 2 ^ s)) 0 64 (j - s) (omega arith) (omega (arith, e))))

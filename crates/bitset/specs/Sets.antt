@@ -1,5 +1,5 @@
 -- A set of edge numbers with one bit for each, in words of 64.
-use Rattle.std.specs.Prelude.{◌≡◌, Bool, List, ℕ, ◌-◌, ◌/◌, ◌%◌, ◌^◌, ◌<◌, length, get_or, set}
+use Rattle.std.specs.Prelude.{◌≡◌, Bool, cond, ltb, Option, Some, None, List, ℕ, ◌-◌, ◌/◌, ◌%◌, ◌^◌, ◌<◌, length, get_or, set}
 use Rattle.std.specs.Int.Bits.{bit_or, bit_xor}
 use Rattle.arith.specs.Ranges.{count, least_from}
 use Rattle.grid.specs.Layer.{bit}
@@ -20,10 +20,15 @@ pub record Empty (t : List ℕ) : Type 0 where
   pub sized : length t ≡ words
   pub none : (k : ℕ) → k < words → get_or t k 0 ≡ 0
 
--- the least number of the set from n on and below `end`, or `end` if there is none, and how many numbers it has
+-- the least number of the set from n on and below `end`, or `end` if there is none
 abbrev pub next_in : List ℕ → ℕ → ℕ → ℕ
 next_in t n end = least_from (has t) n (end - n)
 
+-- the same as an option: none if there is none
+unfoldable pub next_of : List ℕ → ℕ → ℕ → Option ℕ
+next_of t n end = cond (ltb (next_in t n end) end) (Some (next_in t n end)) None
+
+-- how many numbers it has
 abbrev pub member_count : List ℕ → ℕ
 member_count t = count (has t) set_bits
 

@@ -3,6 +3,4 @@
 
 mod set;
 
-pub use set::{
-    EdgeSet, WORDS, contains, insert, lowest_bit, member_count, next_first, remove, widen,
-};
+pub use set::{EdgeSet, WORDS, contains, insert, lowest_bit, member_count, next_first, remove};

@@ -2,4 +2,4 @@
 pub mod Layer
 pub mod Edges
 pub mod Questions
-pub mod Seen
+pub mod Plain

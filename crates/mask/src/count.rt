@@ -4,7 +4,7 @@ ghost use Rattle.arith.specs.Ranges.{count};
 ghost use Rattle.grid.specs.Layer.{bit, sample_in};
 ghost use Rattle.grid.specs.Edges.{edge_columns, edge_rows, stick_in, stick_of};
 ghost use Rattle.mask.specs.Counts.{inside_count, stick_count};
-ghost use Rattle.grid.specs.Seen.{seen};
+ghost use Rattle.grid.specs.Plain.{plain};
 
 use super::mask::stick_byte;
 use grid::{Layer, edge_rows, row_byte, stride_of};
@@ -18,7 +18,7 @@ fn ones_of(x: u8) -> usize
 
 fn inside_in_row(layer: Layer, row: usize) -> usize
     requires row_lt_height { row < layer.size.height }
-    ensures { result ≡ count (sample_in (seen layer.entry) row) layer.entry.size.width }
+    ensures { result ≡ count (sample_in (plain layer.entry) row) layer.entry.size.width }
 {
     let bytes = stride_of(layer.size);
     let mut total: usize = 0;
@@ -30,7 +30,7 @@ fn inside_in_row(layer: Layer, row: usize) -> usize
 
 // The inside samples of a layer.
 pub fn inside_count(layer: Layer) -> usize
-    ensures { result ≡ inside_count (seen layer.entry) }
+    ensures { result ≡ inside_count (plain layer.entry) }
 {
     let height = layer.size.height;
     let mut total: usize = 0;
@@ -42,7 +42,7 @@ pub fn inside_count(layer: Layer) -> usize
 
 fn sticks_in_row(layer: Layer, vertical: bool, row: usize) -> usize
     requires row_bound { row < edge_rows layer.size vertical }
-    ensures { result ≡ count (stick_in (seen layer.entry) vertical row) (edge_columns layer.entry.size vertical) }
+    ensures { result ≡ count (stick_in (plain layer.entry) vertical row) (edge_columns layer.entry.size vertical) }
 {
     let bytes = stride_of(layer.size);
     let mut total: usize = 0;
@@ -53,7 +53,7 @@ fn sticks_in_row(layer: Layer, vertical: bool, row: usize) -> usize
 }
 
 fn sticks_of_kind(layer: Layer, vertical: bool) -> usize
-    ensures { result ≡ count (stick_of (seen layer.entry) vertical) (edge_rows layer.entry.size vertical * edge_columns layer.entry.size vertical) }
+    ensures { result ≡ count (stick_of (plain layer.entry) vertical) (edge_rows layer.entry.size vertical * edge_columns layer.entry.size vertical) }
 {
     let rows = edge_rows(layer.size, vertical);
     let mut total: usize = 0;
@@ -65,7 +65,7 @@ fn sticks_of_kind(layer: Layer, vertical: bool) -> usize
 
 // The sticks of a layer.
 pub fn stick_count(layer: Layer) -> usize
-    ensures { result ≡ stick_count (seen layer.entry) }
+    ensures { result ≡ stick_count (plain layer.entry) }
 {
     sticks_of_kind(layer, false) + sticks_of_kind(layer, true)
 }

@@ -3,7 +3,7 @@
 ghost use Rattle.std.specs.Prelude.{◌≡◌, ℕ, ◌+◌, ◌*◌, ◌≤◌, ◌<◌};
 ghost use Rattle.grid.specs.Layer.{stride, bit, follows};
 ghost use Rattle.grid.specs.Edges.{edge_rows, StickBits};
-ghost use Rattle.grid.specs.Seen.{seen};
+ghost use Rattle.grid.specs.Plain.{plain};
 
 use grid::{Layer, row_byte, stride_of};
 
@@ -11,7 +11,7 @@ use grid::{Layer, row_byte, stride_of};
 fn shifted_byte(layer: Layer, at: usize, row: usize) -> u8
     requires at_bound { at < stride layer.size }
     requires row_lt_height { row < layer.size.height }
-    ensures { (b : ℕ) → b < 8 → bit result b ≡ follows (seen layer.entry) (8 * at + b) row }
+    ensures { (b : ℕ) → b < 8 → bit result b ≡ follows (plain layer.entry) (8 * at + b) row }
 {
     let here = row_byte(layer, at, row) / 2;
     if at + 1 < stride_of(layer.size) {
@@ -24,7 +24,7 @@ fn shifted_byte(layer: Layer, at: usize, row: usize) -> u8
 pub fn stick_byte(layer: Layer, vertical: bool, at: usize, row: usize) -> u8
     requires at_bound { at < stride layer.size }
     requires row_bound { row < edge_rows layer.size vertical }
-    ensures { StickBits (seen layer.entry) vertical at row result }
+    ensures { StickBits (plain layer.entry) vertical at row result }
 {
     let here = row_byte(layer, at, row);
     if vertical {

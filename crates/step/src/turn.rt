@@ -2,7 +2,7 @@
 // walked back. The two corners at that stick are known from the direction, and the two across the cell are asked. Each case looks up the
 // cell's own pattern, written as its corners ne, nw, se and sw: a constant, so that the compiler folds the look.
 ghost use Rattle.std.specs.Prelude.{◌≡◌, ◌<◌};
-ghost use Rattle.grid.specs.Seen.{seen};
+ghost use Rattle.grid.specs.Plain.{plain};
 ghost use Rattle.step.specs.Cells.{linked_in, edge_on};
 ghost use Rattle.step.specs.Turns.{Entered, leaving};
 ghost use Rattle.step.specs.declared.cell.Side.TheVariants.{South, East, North, West};
@@ -26,8 +26,8 @@ fn leave(column: usize, row: usize, pattern: usize, side: Side) -> Edge
 
 // To the north: sw is on the left, se on the right.
 pub fn from_south(layer: Layer, column: usize, row: usize, left: bool) -> Edge
-    requires { Entered (seen layer) column row South left }
-    ensures { result ≡ leaving (seen layer.entry) column row South }
+    requires { Entered (plain layer) column row South left }
+    ensures { result ≡ leaving (plain layer.entry) column row South }
 {
     let nw = is_inside(layer, column, row + 1);
     let ne = is_inside(layer, column + 1, row + 1);
@@ -57,8 +57,8 @@ pub fn from_south(layer: Layer, column: usize, row: usize, left: bool) -> Edge
 
 // To the west: se is on the left, ne on the right.
 pub fn from_east(layer: Layer, column: usize, row: usize, left: bool) -> Edge
-    requires { Entered (seen layer) column row East left }
-    ensures { result ≡ leaving (seen layer.entry) column row East }
+    requires { Entered (plain layer) column row East left }
+    ensures { result ≡ leaving (plain layer.entry) column row East }
 {
     let sw = is_inside(layer, column, row);
     let nw = is_inside(layer, column, row + 1);
@@ -88,8 +88,8 @@ pub fn from_east(layer: Layer, column: usize, row: usize, left: bool) -> Edge
 
 // To the south: ne is on the left, nw on the right.
 pub fn from_north(layer: Layer, column: usize, row: usize, left: bool) -> Edge
-    requires { Entered (seen layer) column row North left }
-    ensures { result ≡ leaving (seen layer.entry) column row North }
+    requires { Entered (plain layer) column row North left }
+    ensures { result ≡ leaving (plain layer.entry) column row North }
 {
     let sw = is_inside(layer, column, row);
     let se = is_inside(layer, column + 1, row);
@@ -119,8 +119,8 @@ pub fn from_north(layer: Layer, column: usize, row: usize, left: bool) -> Edge
 
 // To the east: nw is on the left, sw on the right.
 pub fn from_west(layer: Layer, column: usize, row: usize, left: bool) -> Edge
-    requires { Entered (seen layer) column row West left }
-    ensures { result ≡ leaving (seen layer.entry) column row West }
+    requires { Entered (plain layer) column row West left }
+    ensures { result ≡ leaving (plain layer.entry) column row West }
 {
     let se = is_inside(layer, column + 1, row);
     let ne = is_inside(layer, column + 1, row + 1);

@@ -2,15 +2,15 @@
 ghost use Rattle.std.specs.Prelude.{◌≡◌, true};
 ghost use Rattle.grid.specs.Edges.{is_stick};
 ghost use Rattle.step.specs.Walk.{upward, next, prev};
-ghost use Rattle.grid.specs.Seen.{seen};
+ghost use Rattle.grid.specs.Plain.{plain};
 
 use super::turn::{from_east, from_north, from_south, from_west};
 use grid::{Edge, Layer, is_inside};
 
 // Whether the contour crosses the stick to the north or to the east.
 fn is_upward(layer: Layer, e: Edge) -> bool
-    requires stick { is_stick (seen layer) e ≡ true }
-    ensures { result ≡ upward (seen layer.entry) e }
+    requires stick { is_stick (plain layer) e ≡ true }
+    ensures { result ≡ upward (plain layer.entry) e }
 {
     let inside = is_inside(layer, e.column, e.row);
     if e.vertical { !inside } else { inside }
@@ -18,8 +18,8 @@ fn is_upward(layer: Layer, e: Edge) -> bool
 
 // The successor of a stick on its contour: where the contour leaves the cell ahead.
 pub fn next_stick(layer: Layer, e: Edge) -> Edge
-    requires stick { is_stick (seen layer) e ≡ true }
-    ensures { result ≡ next (seen layer.entry) e }
+    requires stick { is_stick (plain layer) e ≡ true }
+    ensures { result ≡ next (plain layer.entry) e }
 {
     let upper = is_upward(layer, e);
     let column = e.column;
@@ -41,8 +41,8 @@ pub fn next_stick(layer: Layer, e: Edge) -> Edge
 
 // The predecessor of a stick on its contour: where the contour walked back leaves the cell behind.
 pub fn previous_stick(layer: Layer, e: Edge) -> Edge
-    requires stick { is_stick (seen layer) e ≡ true }
-    ensures { result ≡ prev (seen layer.entry) e }
+    requires stick { is_stick (plain layer) e ≡ true }
+    ensures { result ≡ prev (plain layer.entry) e }
 {
     let upper = is_upward(layer, e);
     let column = e.column;

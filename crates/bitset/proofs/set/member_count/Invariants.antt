@@ -1,10 +1,6 @@
-use Prim.Native.Nat.{◌-◌}
 use Rattle.arith.proofs.Counting.{CountedTo}
 use Rattle.bitset.specs.Sets.{words, has}
 use Rattle.bitset.proofs.set.member_count.Given as goal
 
 abbrev pub invariant-loop-word : goal.invariant-loop-word
 invariant-loop-word l = CountedTo (has l.set) 64 words l.word l.sum
-
-abbrev pub decreases-loop-word : goal.decreases-loop-word
-decreases-loop-word l = words - l.word

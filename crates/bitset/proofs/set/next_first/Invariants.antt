@@ -1,9 +1,5 @@
-use Prim.Native.Nat.{◌-◌}
 use Rattle.bitset.proofs.Sets.{Searched}
 use Rattle.bitset.proofs.set.next_first.Given as goal
 
 abbrev pub invariant-loop-word : goal.invariant-loop-word
 invariant-loop-word l = Searched l.set l.from l.word
-
-abbrev pub decreases-loop-word : goal.decreases-loop-word
-decreases-loop-word l = 16368 - l.word

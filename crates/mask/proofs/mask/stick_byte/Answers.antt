@@ -1,7 +1,7 @@
 -- `stick_byte` meets its contract.
 use Prim.Native.Nat.{◌+◌, ◌<◌}
 use native.Mathlib.Omega.{arith}
-use Rattle.grid.specs.Seen.{seen}
+use Rattle.grid.specs.Plain.{plain}
 use Rattle.mask.proofs.Masks.{marks-horizontal, marks-vertical}
 use Rattle.grid.proofs.Numbers.{row-below-height}
 use Rattle.mask.proofs.mask.stick_byte.Goals as goal
@@ -13,7 +13,7 @@ next c = let h = rw c.if-vertical.true at c.requires.row_bound in omega arith
 pub row_byte-here-requires : goal.row_byte-here-requires
 row_byte-here-requires c =
     let a = c.args in
-    let L = seen a.layer in
+    let L = plain a.layer in
     let given = c.requires in
     record { at_bound = given.at_bound; row_lt_height = row-below-height a.layer.size c.args.layer.sound.whole.sized a.vertical a.row given.row_bound }
 
@@ -28,7 +28,7 @@ returns-then-vertical c =
     let next : c.args.row + 1 < c.args.layer.size.height =
     let h = rw c.if-vertical.true at c.requires.row_bound in omega arith in
     let a = c.args in
-    let L = seen a.layer in
+    let L = plain a.layer in
     let given = c.requires in
     rw (c.if-vertical.true, c.row_byte-here.ensures, c.row_byte.ensures)
     (marks-vertical L c.args.layer.sound a.at a.row given.at_bound next)
@@ -36,14 +36,14 @@ returns-then-vertical c =
 pub shifted_byte-requires : goal.shifted_byte-requires
 shifted_byte-requires c =
     let a = c.args in
-    let L = seen a.layer in
+    let L = plain a.layer in
     let given = c.requires in
     record { at_bound = given.at_bound; row_lt_height = row-below-height a.layer.size c.args.layer.sound.whole.sized a.vertical a.row given.row_bound }
 
 pub returns : goal.returns
 returns c =
     let a = c.args in
-    let L = seen a.layer in
+    let L = plain a.layer in
     let given = c.requires in
     rw (c.if-vertical.false, c.row_byte-here.ensures)
     (marks-horizontal L c.args.layer.sound a.at a.row given.at_bound

@@ -1,7 +1,7 @@
 -- `is_upward` meets its contract.
 use mathlib.Core.Path.{ap}
 use mathlib.Core.Bool.{not}
-use Rattle.grid.specs.Seen.{seen}
+use Rattle.grid.specs.Plain.{plain}
 use Rattle.step.proofs.Walks.{stick-sample}
 use Rattle.step.proofs.walk.is_upward.Goals as goal
 
@@ -9,7 +9,7 @@ pub is_inside-inside-requires : goal.is_inside-inside-requires
 is_inside-inside-requires c =
     let a = c.args in
     let given = c.requires in
-    let inside = stick-sample (seen a.layer) c.args.layer.sound a.e.vertical a.e.column a.e.row given.stick in
+    let inside = stick-sample (plain a.layer) c.args.layer.sound a.e.vertical a.e.column a.e.row given.stick in
     record { column_lt_width = inside.0; row_lt_height = inside.1 }
 
 pub returns-then-e : goal.returns-then-e

@@ -3,5 +3,5 @@ use Rattle.grid.specs.Layer.{Layer, layer_of}
 use Rattle.grid.specs.declared.sound.Layer as Struct
 
 -- the layer with its sides and bitmap
-abbrev pub seen : Struct.Layer → Layer
-seen l = layer_of l.size l.bitmap.now
+abbrev pub plain : Struct.Layer → Layer
+plain l = layer_of l.size l.bitmap.now
