@@ -10,8 +10,8 @@ use Rattle.grid.specs.Layer.{Layer}
 use Rattle.grid.specs.Edges.{number, edge_count, edge_at, is_stick, stick_at}
 use Rattle.grid.specs.Questions.{Sound}
 use Rattle.grid.specs.declared.edge.Edge.{Edge}
-use Rattle.grid.specs.declared.question.Refusal.TheVariants as Refusal
-use Rattle.grid.specs.declared.question.Answer.TheVariants.{Yes}
+use Rattle.grid.specs.declared.refusal.Refusal.TheVariants as Refusal
+use Rattle.grid.specs.Questions.{Yes}
 use Rattle.grid.proofs.Answers.{each_all, each-yes}
 use Rattle.grid.proofs.Numbers.{number-below, edge_at-within}
 use Rattle.contour.proofs.Sticks.{stick-in}

@@ -2,7 +2,7 @@
 -- 255, and a pinned one is kept. What is shown of a table cites these and takes no entry apart.
 use mathlib.Core.Path.{◌≡◌, refl, sym, ap}
 use mathlib.Core.Bool.{Bool, true, false, false≢true, cond, ◌&&◌, ◌||◌}
-use Prim.Native.Nat.{ℕ, ◌+◌, ◌-◌, ◌%◌, ◌≤◌}
+use Prim.Native.Nat.{ℕ, ◌+◌, ◌-◌, ◌%◌, ◌≤◌, ◌<◌}
 use native.Mathlib.Omega.{arith}
 use borrow.Author.Tests.{eqb-true, eqb-false, leb-true, ne_eqb, le-leb, lt-leb, lt-ltb, le-ltb}
 use lib.Dec.{eqb, leb, ltb}
@@ -46,6 +46,19 @@ entry-encoded (Pinned n) i =
       le-leb (512 + n) 767 (omega (arith, i.high)),
     ) (ap Pinned back)
 entry-encoded Wrong i = refl
+
+-- a number past those of vertices
+pub entry-past : (n : ℕ) → 767 < n → Wrong ≡ entry_of n
+unfolding entry_of
+entry-past n h =
+    rw (
+      ne_eqb n 0 (λ e. omega arith),
+      lt-leb n 255 (omega arith),
+      le-leb 257 n (omega arith),
+      lt-leb n 511 (omega arith),
+      le-leb 513 n (omega arith),
+      lt-leb n 767 h,
+    )
 
 -- what a number says that is no wrong entry: itself again, and of a vertex an offset, which is the number's low byte, and whether it is pinned
 record Told (n : ℕ) (x : Entry) : Type 0 where

@@ -7,8 +7,8 @@ use lib.ListN.{length}
 use Rattle.grid.specs.Layer.{Layer}
 use Rattle.grid.specs.Edges.{edge_count}
 use Rattle.grid.specs.Questions.{first_no, layer_questions}
-use Rattle.grid.specs.declared.question.Refusal.TheVariants.{TableLength}
-use Rattle.grid.specs.declared.question.Answer.TheVariants.{Yes}
+use Rattle.grid.specs.declared.refusal.Refusal.TheVariants.{TableLength}
+use Rattle.grid.specs.Questions.{Yes}
 use Rattle.grid.proofs.Answers.{asked, append-all, first_no-yes, sound-of}
 use Rattle.table.specs.Entries.{table_length_answer, length_questions}
 use Rattle.table.specs.Lent.{Lent}

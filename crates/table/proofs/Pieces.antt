@@ -18,12 +18,6 @@ use Rattle.table.specs.Lent.{Lent, LentRow, LentRun}
 pub lent_row : {L : Layer} {t : List ℕ} {v : Bool} {rows r : ℕ} → Lent L t → rows ≡ edge_rows L.size v → r < rows → LentRow L t v r
 lent_row given high below = record { sound = given.sound; exact = given.exact; row = omega arith }
 
--- how many edges a kind has, at most
-pub kind-few : {L : Layer} {t : List ℕ} (v : Bool) {rows columns : ℕ} → Lent L t → rows ≡ edge_rows L.size v
-    → columns ≡ edge_columns L.size v → rows * columns ≤ 2095104
-kind-few {L} v given high wide =
-    rw (high, wide) (rows-small L.size given.sound.whole.sized v (edge_rows L.size v) (omega arith)).1
-
 -- how many rows there are before one, and edges up to its end
 module _ {L : Layer} {t : List ℕ} {v : Bool} {r : ℕ} (given : LentRow L t v r) where
   pub row-few : r ≤ 1024

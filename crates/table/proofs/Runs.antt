@@ -3,60 +3,51 @@
 use mathlib.Core.Path.{◌≡◌, refl, ap, ap₂, sym, ◌∙◌}
 use mathlib.Core.Bool.{Bool, true, false}
 use mathlib.Core.List.{List}
-use Prim.Native.Nat.{ℕ, ◌+◌, ◌*◌, ◌≤◌, ◌<◌}
+use Prim.Native.Nat.{ℕ, ◌+◌, ◌-◌, ◌*◌, ◌≤◌, ◌<◌}
 use native.Mathlib.Omega.{arith}
 use native.Mathlib.Nat.{add_assoc, zero-add, mul-le-mul_right}
-use borrow.Author.Count.{below_more}
-use borrow.Author.Tests.{eqb-true}
-use lib.Arith.{digits_lt}
 use lib.Bits.{bit_or, or_add_and, and_le_l, and_le_r}
-use lib.Dec.{eqb}
-use lib.ListN.{get_or}
-use Rattle.arith.specs.Ranges.{least}
-use Rattle.arith.proofs.Ranges.{least-none, least_from-le}
+use lib.ListN.{get_or, length, take, drop}
+use Rattle.std.proofs.lemmas.List.{get_or-take, get_or-drop, length-take-le, length-drop}
+use Rattle.std.specs.Prelude.{Option, Some, None}
+use Rattle.arith.specs.Ranges.{least_of}
+use Rattle.arith.proofs.Ranges.{found-none, found}
 use Rattle.grid.specs.Layer.{Layer}
 use Rattle.grid.specs.Edges.{edge_columns, edge_rows, edge_count, kind_start, row_start, is_stick}
+use Rattle.grid.specs.Questions.{Yes, No}
 use Rattle.grid.specs.declared.edge.Edge.{Edge}
-use Rattle.grid.specs.declared.question.Refusal.TheVariants.{WrongEntry}
-use Rattle.grid.specs.declared.question.Answer.TheVariants.{Yes, No}
+use Rattle.grid.specs.declared.refusal.Refusal.TheVariants.{WrongEntry}
 use Rattle.grid.proofs.Bits.{bit_past}
 use Rattle.grid.proofs.Numbers.{edge_in-at, edge_at-kind, edges-split, edges-small}
 use Rattle.table.specs.Entries.{entry_of, wrong, wrong_at, wrong_of, wrong_in, wrong_from, entries_answer}
 use Rattle.table.specs.Lent.{Lent, LentRow}
-use Rattle.table.proofs.Searching.{NoneBelow, none-start, none_end, none-yes, part-passed, part-found, part_no}
-use Rattle.table.proofs.Pieces.{reached, Piece, pieces-few}
+use Rattle.table.proofs.Searching.{NoneBelow, none-start, none-yes, part-passed, part-found, part_no}
+use Rattle.table.proofs.Pieces.{reached, Piece, pieces-few, lent-run}
 
--- Eight entries at once
+-- A run of entries: where they are all 0 and there is no stick, none of them is wrong
 
--- the first b of them are 0 if `any`, their bitwise or, is
-pub record Zeros (t : List ℕ) (start any b : ℕ) : Type 0 where
-  pub few : b ≤ 8
-  pub all : any ≡ 0 → (k : ℕ) → k < b → get_or t (start + k) 0 ≡ 0
-
-neither : (a b : ℕ) → bit_or a b ≡ 0 → (a ≡ 0) × (b ≡ 0)
+pub neither : (a b : ℕ) → bit_or a b ≡ 0 → (a ≡ 0) × (b ≡ 0)
 neither a b e = let sum = or_add_and a b in (omega (arith, and_le_r a b), omega (arith, and_le_l a b))
 
-module _ {t : List ℕ} {start : ℕ} where
-  pub zeros-start : Zeros t start 0 0
-  zeros-start = record { few = omega arith; all = λ e k h. absurd (omega arith) }
-
-  pub zeros-turn : {any b : ℕ} → Zeros t start any b → b < 8 → Zeros t start (bit_or any (get_or t (start + b) 0)) (b + 1)
-  zeros-turn {any} {b} z h = record {
-    few = omega arith;
-    all = λ e. let both = neither any (get_or t (start + b) 0) e in
-        below_more (λ (k : ℕ). get_or t (start + k) 0 ≡ 0) b (z.all both.0) both.1;
-  }
-
-  pub zeros-all : {any b : ℕ} → Zeros t start any b → 8 ≤ b → eqb any 0 ≡ true → (k : ℕ) → k < 8 → get_or t (start + k) 0 ≡ 0
-  zeros-all {any} z over e k h = z.all (eqb-true any 0 e) k (omega arith)
-
--- none of them is wrong where there is no stick
-pub zeros-right : (t : List ℕ) (start : ℕ) {x n : ℕ} → x ≡ 0 → n ≡ 8 → ((k : ℕ) → k < 8 → get_or t (start + k) 0 ≡ 0)
-    → 8 ≡ least (wrong_from t start x) n
+pub zeros-right : (run : List ℕ) {x : ℕ} → x ≡ 0 → ((k : ℕ) → k < length run → get_or run k 0 ≡ 0)
+    → None ≡ least_of (wrong_from run x) (length run)
 unfolding entry_of
-zeros-right t start {x} none eight zero =
-    sym (ap (least (wrong_from t start x)) eight
-    ∙ least-none (wrong_from t start x) 8 (λ k h. rw (none, bit_past 0 0 k refl (omega arith), zero k h)))
+zeros-right run {x} none zero =
+    found-none (wrong_from run x) (length run) (λ k h. rw (none, bit_past 0 0 k refl (omega arith), zero k h))
+
+-- n entries of a table, from a place on, as code lends them
+abbrev taken : List ℕ → ℕ → ℕ → List ℕ
+taken t from n = take (from + n - from) (drop from t)
+
+module _ (t : List ℕ) (from n : ℕ) where
+  few : from + n - from ≡ n
+  few = omega arith
+
+  length-taken : from + n ≤ length t → length (taken t from n) ≡ n
+  length-taken h = rw few (length-take-le n (drop from t) (simp length-drop (omega arith)))
+
+  get_or-taken : (b : ℕ) → b < n → get_or (taken t from n) b 0 ≡ get_or t (from + b) 0
+  get_or-taken b h = rw few (get_or-take n (drop from t) b 0 h ∙ get_or-drop from t b 0)
 
 -- A row, in pieces: no entry of those before piece `at` is wrong
 
@@ -65,31 +56,32 @@ pub record RowPassed (L : Layer) (t : List ℕ) (v : Bool) (r at : ℕ) : Type 0
   pub passed : NoneBelow (wrong_in L t v r) (reached L.size v at)
 
 module _ {L : Layer} {t : List ℕ} {v : Bool} {r : ℕ} where
-  pub row-begin : RowPassed L t v r 0
-  row-begin = record { few = omega arith; passed = record { none = λ j h. absurd (omega arith) } }
-
   module _ {at : ℕ} (so_far : RowPassed L t v r at) where
-    pub row-end : {columns : ℕ} → columns ≡ edge_columns L.size v → columns ≤ 8 * at
-        → columns ≡ least (wrong_in L t v r) (edge_columns L.size v)
-    row-end wide over = wide ∙ none_end so_far.passed (omega arith)
+    pub row-end : edge_columns L.size v ≤ 8 * at → None ≡ least_of (wrong_in L t v r) (edge_columns L.size v)
+    row-end over = found-none _ _ (λ j h. so_far.passed.none j (omega arith))
 
-    module _ {start x n b : ℕ} (p : Piece L v r at start x n) (e : b ≡ least (wrong_from t (start + 8 * at) x) n) where
+    module _ (given : LentRow L t v r) {start x n : ℕ} (p : Piece L v r at start x n) {b : Option ℕ}
+        (e : b ≡ least_of (wrong_from (taken t (start + 8 * at) n) x) (length (taken t (start + 8 * at) n))) where
       before : NoneBelow (wrong_in L t v r) (8 * at)
       before = rw p.from so_far.passed
 
-      run-same : (j : ℕ) → j < n → wrong_from t (start + 8 * at) x j ≡ wrong_in L t v r (8 * at + j)
+      lowest : b ≡ least_of (wrong_from (taken t (start + 8 * at) n) x) n
+      lowest = rw (length-taken t (start + 8 * at) n (lent-run given p).within) at e
+
+      run-same : (j : ℕ) → j < n → wrong_from (taken t (start + 8 * at) n) x j ≡ wrong_in L t v r (8 * at + j)
       run-same j h =
           ap₂ wrong (p.marks.ones j (omega (arith, p.small)))
-          (ap (λ (k : ℕ). get_or t k 0) (rw p.starts (add_assoc (row_start L.size v r) (8 * at) j)))
+          (get_or-taken t (start + 8 * at) n j h
+          ∙ ap (λ (k : ℕ). get_or t k 0) (rw p.starts (add_assoc (row_start L.size v r) (8 * at) j)))
 
-      pub row-found : b < n → 8 * at + b ≡ least (wrong_in L t v r) (edge_columns L.size v)
-      row-found h = part-found before (wrong_from t (start + 8 * at) x) run-same e h (omega (arith, p.fits))
+      pub row-found : {k : ℕ} → b ≡ Some k → Some (8 * at + k) ≡ least_of (wrong_in L t v r) (edge_columns L.size v)
+      row-found some = part-found before _ run-same lowest some p.fits
 
-      pub row-turn : LentRow L t v r → n ≤ b → RowPassed L t v r (at + 1)
-      row-turn given over = record {
-        few = pieces-few given p;
-        passed = rw p.to at (part-passed before (wrong_from t (start + 8 * at) x) run-same e over);
-      }
+      pub row-within : {k : ℕ} → b ≡ Some k → k < n
+      row-within some = (found _ n lowest some).within
+
+      pub row-turn : b ≡ None → RowPassed L t v r (at + 1)
+      row-turn none = record { few = pieces-few given p; passed = rw p.to at (part-passed before _ run-same lowest none) }
 
 -- A kind, by rows: no entry of those before row r is wrong
 
@@ -97,32 +89,33 @@ pub record KindPassed (L : Layer) (t : List ℕ) (v : Bool) (r : ℕ) : Type 0 w
   pub passed : NoneBelow (wrong_of L t v) (r * edge_columns L.size v)
 
 module _ {L : Layer} {t : List ℕ} {v : Bool} where
-  pub kind-begin : KindPassed L t v 0
-  kind-begin = record { passed = record { none = λ j h. absurd (omega arith) } }
+  module _ {r : ℕ} (so_far : KindPassed L t v r) where
+    pub kind-end : edge_rows L.size v ≤ r → None ≡ least_of (wrong_of L t v) (edge_rows L.size v * edge_columns L.size v)
+    kind-end over =
+        let reached = mul-le-mul_right (edge_columns L.size v) over in
+        found-none _ _ (λ j h. so_far.passed.none j (omega arith))
 
-  module _ {r : ℕ} (so_far : KindPassed L t v r) {columns : ℕ} (wide : columns ≡ edge_columns L.size v) where
-    pub kind-end : {rows : ℕ} → rows ≡ edge_rows L.size v → rows ≤ r
-        → rows * columns ≡ least (wrong_of L t v) (edge_rows L.size v * edge_columns L.size v)
-    kind-end high over = rw (high, wide) (none_end so_far.passed (mul-le-mul_right (edge_columns L.size v) (omega arith)))
-
-    module _ (given : LentRow L t v r) {c : ℕ} (e : c ≡ least (wrong_in L t v r) (edge_columns L.size v)) where
+    module _ (given : LentRow L t v r) {c : Option ℕ} (e : c ≡ least_of (wrong_in L t v r) (edge_columns L.size v)) where
       row_same : (j : ℕ) → j < edge_columns L.size v → wrong_in L t v r j ≡ wrong_of L t v (r * edge_columns L.size v + j)
       row_same j h =
           ap₂ wrong
           (ap (is_stick L) (sym (edge_in-at L.size given.sound.whole.sized v j r h)))
           (ap (λ (k : ℕ). get_or t k 0) (add_assoc (kind_start L.size v) (r * edge_columns L.size v) j))
 
-      pub kind-found : c < columns → r * columns + c ≡ least (wrong_of L t v) (edge_rows L.size v * edge_columns L.size v)
-      kind-found h =
-          let below : c < edge_columns L.size v = omega arith in
-          rw wide (part-found so_far.passed (wrong_in L t v r) row_same e below (digits_lt given.row below))
+      next : r * edge_columns L.size v + edge_columns L.size v ≡ (r + 1) * edge_columns L.size v
+      next = omega arith
 
-      pub kind-turn : columns ≤ c → KindPassed L t v (r + 1)
-      kind-turn over =
-          let next : r * edge_columns L.size v + edge_columns L.size v ≡ (r + 1) * edge_columns L.size v = omega arith in
-          record { passed = rw next at (part-passed so_far.passed (wrong_in L t v r) row_same e (omega arith)) }
+      pub kind-found : {k : ℕ} → c ≡ Some k
+          → Some (r * edge_columns L.size v + k) ≡ least_of (wrong_of L t v) (edge_rows L.size v * edge_columns L.size v)
+      kind-found some =
+          let below : r + 1 ≤ edge_rows L.size v = omega (arith, given.row) in
+          let up = mul-le-mul_right (edge_columns L.size v) below in
+          part-found so_far.passed (wrong_in L t v r) row_same e some (omega (arith, next))
 
--- Both kinds: the horizontal edges come first, and there are `start` of them
+      pub kind-turn : c ≡ None → KindPassed L t v (r + 1)
+      kind-turn none = record { passed = rw next at (part-passed so_far.passed (wrong_in L t v r) row_same e none) }
+
+-- Both kinds: the horizontal edges come first
 
 module _ {L : Layer} {t : List ℕ} (given : Lent L t) where
   abbrev edges : Bool → ℕ
@@ -139,29 +132,26 @@ module _ {L : Layer} {t : List ℕ} (given : Lent L t) where
   none_passed : NoneBelow (wrong_at L t) 0
   none_passed = none-start
 
-  module _ {start k : ℕ} (horizontal : start ≡ kind_start L.size true) (low : k ≡ least (wrong_of L t false) (edges false)) where
-    pub entries-low : k < start → No WrongEntry k ≡ entries_answer L t
+  module _ {x : Option ℕ} (low : x ≡ least_of (wrong_of L t false) (edges false)) where
+    pub entries-low : {k : ℕ} → x ≡ Some k → No WrongEntry k ≡ entries_answer L t
     unfolding entries_answer
-    entries-low h =
-        let within : 0 + k < edge_count L.size = omega (arith, split) in
-        rw zero-add at (part_no none_passed (wrong_of L t false) (kind-same false) low (omega arith) within WrongEntry)
+    entries-low some =
+        rw zero-add at (part_no none_passed (wrong_of L t false) (kind-same false) low some {n = edge_count L.size} (omega (arith, split)) WrongEntry)
 
-    module _ {k' : ℕ} (high : k' ≡ least (wrong_of L t true) (edges true)) where
-      pub places-few : start + k' ≤ 2095104
-      places-few =
-          omega (arith, split, least_from-le (wrong_of L t true) 0 (edges true), edges-small L.size given.sound.whole.sized)
+    module _ (none : x ≡ None) {y : Option ℕ} (high : y ≡ least_of (wrong_of L t true) (edges true)) where
+      low-passed : NoneBelow (wrong_at L t) (kind_start L.size true)
+      low-passed = rw zero-add at (part-passed none_passed (wrong_of L t false) (kind-same false) low none)
 
-      module _ (over : start ≤ k) {count : ℕ} (whole : count ≡ edge_count L.size) where
-        low-passed : NoneBelow (wrong_at L t) (kind_start L.size true)
-        low-passed = rw zero-add at (part-passed none_passed (wrong_of L t false) (kind-same false) low (omega arith))
+      module _ {k : ℕ} (some : y ≡ Some k) where
+        pub places-few : kind_start L.size true + k ≤ 2095104
+        places-few =
+            omega (arith, split, (found (wrong_of L t true) (edges true) high some).within, edges-small L.size given.sound.whole.sized)
 
-        pub entries-high : start + k' < count → No WrongEntry (start + k') ≡ entries_answer L t
+        pub entries-high : No WrongEntry (kind_start L.size true + k) ≡ entries_answer L t
         unfolding entries_answer
-        entries-high h =
-            rw horizontal
-            (part_no low-passed (wrong_of L t true) (kind-same true) high (omega (arith, split)) (omega arith) WrongEntry)
+        entries-high = part_no low-passed (wrong_of L t true) (kind-same true) high some (omega (arith, split)) WrongEntry
 
-        pub entries-right : count ≤ start + k' → Yes ≡ entries_answer L t
-        unfolding entries_answer
-        entries-right h =
-            none-yes (part-passed low-passed (wrong_of L t true) (kind-same true) high (omega (arith, split))) WrongEntry (omega (arith, split))
+      pub entries-right : y ≡ None → Yes ≡ entries_answer L t
+      unfolding entries_answer
+      entries-right over =
+          none-yes (part-passed low-passed (wrong_of L t true) (kind-same true) high over) WrongEntry (omega (arith, split))

@@ -1,14 +1,13 @@
--- A search from below: a step of it, and a stretch of numbers searched by another test that agrees with it there.
+-- A search from below: where it answers a question, and a stretch of numbers searched by another test that agrees with it there.
 use mathlib.Core.Path.{◌≡◌, sym, ◌∙◌}
 use mathlib.Core.Bool.{Bool, true, false}
 use Prim.Native.Nat.{ℕ, ◌+◌, ◌≤◌, ◌<◌}
 use native.Mathlib.Omega.{arith}
-use borrow.Author.Count.{below_more}
-use Rattle.arith.specs.Ranges.{least}
-use Rattle.arith.proofs.Ranges.{least-is, least-none, least_from-holds, least_from-below, below-add}
-use Rattle.grid.specs.Questions.{ask_each}
-use Rattle.grid.specs.declared.question.Refusal.{Refusal}
-use Rattle.grid.specs.declared.question.Answer.TheVariants.{Yes, No}
+use Rattle.std.specs.Prelude.{Option, Some, None}
+use Rattle.arith.specs.Ranges.{least_of}
+use Rattle.arith.proofs.Ranges.{Found, found-is, found, none-found, below-add}
+use Rattle.grid.specs.Questions.{Yes, No, ask_each}
+use Rattle.grid.specs.declared.refusal.Refusal.{Refusal}
 use Rattle.grid.proofs.Answers.{each-no, each-yes}
 
 -- none of the numbers below k passes the test
@@ -19,40 +18,34 @@ pub none-start : {f : ℕ → Bool} → NoneBelow f 0
 none-start = record { none = λ j h. absurd (omega arith) }
 
 module _ {f : ℕ → Bool} {k : ℕ} (p : NoneBelow f k) where
-  pub none_more : f k ≡ false → NoneBelow f (k + 1)
-  none_more e = record { none = below_more _ k p.none e }
+  pub none-no : (q : Refusal) {n : ℕ} → k < n → f k ≡ true → No q k ≡ ask_each q f n
+  none-no q {n} h e = each-no q f n k h e p.none
 
-  module _ {n : ℕ} where
-    pub none_found : k < n → f k ≡ true → k ≡ least f n
-    none_found h e = sym (least-is f n k h e p.none)
+  pub none-yes : (q : Refusal) {n : ℕ} → n ≤ k → Yes ≡ ask_each q f n
+  none-yes q {n} h = each-yes q f n (λ j l. p.none j (omega arith))
 
-    pub none_end : n ≤ k → n ≡ least f n
-    none_end h = sym (least-none f n (λ j l. p.none j (omega arith)))
+-- the m numbers from k on, by a test g on what they are above k, of which x is the least
+module _ {f : ℕ → Bool} {k : ℕ} (p : NoneBelow f k) (g : ℕ → Bool) {m : ℕ} (same : (j : ℕ) → j < m → g j ≡ f (k + j)) {x : Option ℕ}
+    (e : x ≡ least_of g m) where
+  up_to : (b : ℕ) → b ≤ m → ((j : ℕ) → j < b → g j ≡ false) → NoneBelow f (k + b)
+  up_to b h low =
+      record { none = below-add (λ (j : ℕ). f j ≡ false) k b p.none (λ j i. sym (same j (omega arith)) ∙ low j i) }
 
-    -- the same where the search answers a question
-    pub none-no : (q : Refusal) → k < n → f k ≡ true → No q k ≡ ask_each q f n
-    none-no q h e = each-no q f n k h e p.none
+  pub part-passed : x ≡ None → NoneBelow f (k + m)
+  part-passed none = up_to m (omega arith) (none-found g m e none)
 
-    pub none-yes : (q : Refusal) → n ≤ k → Yes ≡ ask_each q f n
-    none-yes q h = each-yes q f n (λ j l. p.none j (omega arith))
+  module _ {b : ℕ} (some : x ≡ Some b) {n : ℕ} (within : k + m ≤ n) where
+    here : Found g m b
+    here = found g m e some
 
--- the m numbers from k on, by a test g on what they are above k
-module _ {f : ℕ → Bool} {k : ℕ} (p : NoneBelow f k) (g : ℕ → Bool) {m b : ℕ} (same : (j : ℕ) → j < m → g j ≡ f (k + j)) (e : b ≡ least g m) where
-  up_to : (n : ℕ) → n ≤ m → n ≤ b → NoneBelow f (k + n)
-  up_to n h l = record {
-    none = below-add (λ (j : ℕ). f j ≡ false) k n p.none λ j i.
-        sym (same j (omega arith)) ∙ least_from-below g 0 m j (omega arith) (omega (arith, e));
-  }
-
-  pub part-passed : m ≤ b → NoneBelow f (k + m)
-  part-passed = up_to m (omega arith)
-
-  module _ (h : b < m) {n : ℕ} (within : k + b < n) where
     holds : f (k + b) ≡ true
-    holds = sym (same b h) ∙ rw (sym e) at (least_from-holds g 0 m (omega (arith, e)))
+    holds = sym (same b here.within) ∙ here.passes
 
-    pub part-found : k + b ≡ least f n
-    part-found = none_found (up_to b (omega arith) (omega arith)) within holds
+    before : NoneBelow f (k + b)
+    before = up_to b (omega (arith, here.within)) here.before
+
+    pub part-found : Some (k + b) ≡ least_of f n
+    part-found = found-is f n (k + b) (omega (arith, here.within)) holds before.none
 
     pub part_no : (q : Refusal) → No q (k + b) ≡ ask_each q f n
-    part_no q = none-no (up_to b (omega arith) (omega arith)) q within holds
+    part_no q = none-no before q (omega (arith, here.within)) holds

@@ -12,8 +12,8 @@ use Rattle.grid.specs.Layer.{Layer}
 use Rattle.grid.specs.Edges.{is_stick, number, edge_count, stick_at}
 use Rattle.grid.specs.Questions.{Sound}
 use Rattle.grid.specs.declared.edge.Edge.{Edge}
-use Rattle.grid.specs.declared.question.Refusal.TheVariants.{WrongEntry}
-use Rattle.grid.specs.declared.question.Answer.TheVariants.{Yes}
+use Rattle.grid.specs.declared.refusal.Refusal.TheVariants.{WrongEntry}
+use Rattle.grid.specs.Questions.{Yes}
 use Rattle.grid.proofs.Answers.{each_all, each-yes}
 use Rattle.grid.proofs.Numbers.{number-below, number-injective, edge_at-number}
 use Rattle.contour.proofs.Sticks.{stick-in}

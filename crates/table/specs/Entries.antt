@@ -4,8 +4,8 @@ use Rattle.grid.specs.Layer.{Layer, bit}
 use Rattle.grid.specs.Edges.{kind_start, row_start, edge_count, stick_in, stick_of, stick_at}
 use Rattle.grid.specs.Questions.{ask, ask_each, layer_questions}
 use Rattle.grid.specs.declared.layer.Size.{Size}
-use Rattle.grid.specs.declared.question.Refusal.TheVariants as Refusal
-use Rattle.grid.specs.declared.question.Answer.{Answer}
+use Rattle.grid.specs.declared.refusal.Refusal.TheVariants as Refusal
+use Rattle.grid.specs.Questions.{Answer}
 use Rattle.table.specs.declared.entry.Entry.{Entry}
 use Rattle.table.specs.declared.entry.Entry.TheVariants.{Nothing, Kept, Removed, Pinned, Wrong}
 
@@ -60,6 +60,6 @@ wrong_of L t vertical k = wrong (stick_of L vertical k) (get_or t (kind_start L.
 abbrev pub wrong_in : Layer → List ℕ → Bool → ℕ → ℕ → Bool
 wrong_in L t vertical r c = wrong (stick_in L vertical r c) (get_or t (row_start L.size vertical r + c) 0)
 
--- and among the entries from `start` on, where bit b of `marks` says whether the b-th of them is on a stick
-abbrev pub wrong_from : List ℕ → ℕ → ℕ → ℕ → Bool
-wrong_from t start marks b = wrong (bit marks b) (get_or t (start + b) 0)
+-- and among the entries of a run of edges, where bit b of `marks` says whether the b-th of them is on a stick
+abbrev pub wrong_from : List ℕ → ℕ → ℕ → Bool
+wrong_from run marks b = wrong (bit marks b) (get_or run b 0)

@@ -4,8 +4,8 @@ use Rattle.std.specs.Prelude.{Bool, List, ℕ, get_or}
 use Rattle.grid.specs.Edges.{edge_count}
 use Rattle.grid.specs.Questions.{ask_each}
 use Rattle.grid.specs.declared.layer.Size.{Size}
-use Rattle.grid.specs.declared.question.Refusal.TheVariants as Refusal
-use Rattle.grid.specs.declared.question.Answer.{Answer}
+use Rattle.grid.specs.declared.refusal.Refusal.TheVariants as Refusal
+use Rattle.grid.specs.Questions.{Answer}
 use Rattle.table.specs.Entries.{entry_of}
 use Rattle.table.specs.Vertices.{is_kept, is_removed}
 

@@ -3,7 +3,7 @@ ghost use Rattle.std.specs.Prelude.{◌≡◌, length};
 ghost use Rattle.arith.specs.Ranges.{count};
 ghost use Rattle.table.specs.Kept.{kept_entry};
 
-use super::entry::entry_of;
+use super::entry::Entry;
 use super::vertex::is_kept;
 
 // How many entries have a kept vertex.
@@ -11,12 +11,10 @@ pub fn count_kept(table: &[u16]) -> usize
     ensures { result ≡ count (kept_entry table.now) (length table.now) }
 {
     let mut kept: usize = 0;
-    let mut n = 0;
-    while n < table.len() {
-        if is_kept(entry_of(table[n])) {
+    for n in table {
+        if is_kept(Entry::from(*n)) {
             kept += 1;
         }
-        n += 1;
     }
     kept
 }

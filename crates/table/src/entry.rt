@@ -14,40 +14,32 @@ pub enum Entry {
     Wrong,
 }
 
-pub fn entry_of(n: u16) -> Entry
-    ensures { result ≡ entry_of n }
-{
-    if n == 0 {
-        return Entry::Nothing;
+impl From<u16> for Entry {
+    ghost from_gives = { λ n entry. entry ≡ entry_of n };
+
+    fn from(n: u16) -> Entry {
+        match n {
+            0 => Entry::Nothing,
+            1..=255 => Entry::Kept((n % 256) as u8),
+            257..=511 => Entry::Removed((n % 256) as u8),
+            513..=767 => Entry::Pinned((n % 256) as u8),
+            _ => Entry::Wrong,
+        }
     }
-    if n <= 255 {
-        return Entry::Kept((n % 256) as u8);
-    }
-    if n < 257 {
-        return Entry::Wrong;
-    }
-    if n <= 511 {
-        return Entry::Removed((n % 256) as u8);
-    }
-    if n < 513 {
-        return Entry::Wrong;
-    }
-    if n <= 767 {
-        return Entry::Pinned((n % 256) as u8);
-    }
-    Entry::Wrong
 }
 
 // The number of an entry.
-pub fn encoded_of(entry: Entry) -> u16
-    ensures { result ≡ encoded entry }
-{
-    match entry {
-        Entry::Nothing => 0,
-        Entry::Kept(offset) => offset as u16,
-        Entry::Removed(offset) => 256 + offset as u16,
-        Entry::Pinned(offset) => 512 + offset as u16,
-        Entry::Wrong => 256,
+impl From<Entry> for u16 {
+    ghost from_gives = { λ entry n. n ≡ encoded entry };
+
+    fn from(entry: Entry) -> u16 {
+        match entry {
+            Entry::Nothing => 0,
+            Entry::Kept(offset) => u16::from(offset),
+            Entry::Removed(offset) => 256 + u16::from(offset),
+            Entry::Pinned(offset) => 512 + u16::from(offset),
+            Entry::Wrong => 256,
+        }
     }
 }
 
@@ -71,12 +63,9 @@ pub fn has_pin(n: u16) -> bool
 pub fn is_wrong(stick: bool, n: u16) -> bool
     ensures { result ≡ wrong stick n }
 {
-    let entry = entry_of(n);
-    match entry {
+    match Entry::from(n) {
         Entry::Nothing => stick,
-        Entry::Kept(_) => !stick,
-        Entry::Removed(_) => !stick,
-        Entry::Pinned(_) => !stick,
+        Entry::Kept(_) | Entry::Removed(_) | Entry::Pinned(_) => !stick,
         Entry::Wrong => true,
     }
 }

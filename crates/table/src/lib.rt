@@ -7,6 +7,6 @@ mod question;
 mod vertex;
 
 pub use count::count_kept;
-pub use entry::{Entry, encoded_of, entry_of, has_pin, offset_of};
+pub use entry::{Entry, has_pin, offset_of};
 pub use question::{ask_all_kept, ask_entries, ask_lengths};
 pub use vertex::{entry_at, is_kept, is_pinned, is_removed, offset_in, pin, remove, store};

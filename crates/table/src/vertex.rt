@@ -8,7 +8,7 @@ ghost use Rattle.table.specs.Stores.{store};
 ghost use Rattle.table.specs.Lent.{HasEntry};
 ghost use Rattle.table.specs.declared.entry.Entry.TheVariants.{Removed, Pinned};
 
-use super::entry::{Entry, encoded_of, entry_of};
+use super::entry::Entry;
 use grid::{Edge, Size, number_of};
 
 pub fn entry_at(size: Size, table: &[u16], e: Edge) -> Entry
@@ -16,54 +16,33 @@ pub fn entry_at(size: Size, table: &[u16], e: Edge) -> Entry
     ensures { result ≡ entry_of (get_or table.now (number size e) 0) }
 {
     let n = number_of(size, e);
-    entry_of(table[n])
+    Entry::from(table[n])
 }
 
 pub fn is_kept(entry: Entry) -> bool
     ensures { result ≡ is_kept entry }
 {
-    match entry {
-        Entry::Nothing => false,
-        Entry::Kept(_) => true,
-        Entry::Removed(_) => false,
-        Entry::Pinned(_) => true,
-        Entry::Wrong => false,
-    }
+    matches!(entry, Entry::Kept(_) | Entry::Pinned(_))
 }
 
 pub fn is_removed(entry: Entry) -> bool
     ensures { result ≡ is_removed entry }
 {
-    match entry {
-        Entry::Nothing => false,
-        Entry::Kept(_) => false,
-        Entry::Removed(_) => true,
-        Entry::Pinned(_) => false,
-        Entry::Wrong => false,
-    }
+    matches!(entry, Entry::Removed(_))
 }
 
 pub fn is_pinned(entry: Entry) -> bool
     ensures { result ≡ is_pinned entry }
 {
-    match entry {
-        Entry::Nothing => false,
-        Entry::Kept(_) => false,
-        Entry::Removed(_) => false,
-        Entry::Pinned(_) => true,
-        Entry::Wrong => false,
-    }
+    matches!(entry, Entry::Pinned(_))
 }
 
 pub fn offset_in(entry: Entry) -> u8
     ensures { result ≡ offset_in entry }
 {
     match entry {
-        Entry::Nothing => 0,
-        Entry::Kept(offset) => offset,
-        Entry::Removed(offset) => offset,
-        Entry::Pinned(offset) => offset,
-        Entry::Wrong => 0,
+        Entry::Kept(offset) | Entry::Removed(offset) | Entry::Pinned(offset) => offset,
+        Entry::Nothing | Entry::Wrong => 0,
     }
 }
 
@@ -73,7 +52,7 @@ pub fn store(size: Size, table: &mut [u16], e: Edge, entry: Entry)
     ensures { table.new ≡ store size table.old e entry }
 {
     let n = number_of(size, e);
-    table[n] = encoded_of(entry);
+    table[n] = u16::from(entry);
 }
 
 // Removes a vertex, with the offset it has.

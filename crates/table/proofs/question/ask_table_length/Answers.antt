@@ -7,6 +7,6 @@ pub returns-then-entries-edge_count : goal.returns-then-entries-edge_count
 unfolding table_length_answer
 returns-then-entries-edge_count c = rw (eq-eqb _ _ (rw c.edge_count.ensures at c.if-entries-edge_count.true))
 
-pub returns : goal.returns
+pub returns-else-entries-edge_count : goal.returns-else-entries-edge_count
 unfolding table_length_answer
-returns c = rw (ne_eqb _ _ (rw c.edge_count.ensures at c.if-entries-edge_count.false))
+returns-else-entries-edge_count c = rw (c.at.ensures, ne_eqb _ _ (rw c.edge_count.ensures at c.if-entries-edge_count.false))

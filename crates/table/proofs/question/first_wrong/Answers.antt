@@ -1,26 +1,19 @@
 -- `first_wrong` meets its contract. The invariant: no entry passed is wrong.
-use mathlib.Core.Path.{◌≡◌, sym, ◌∙◌}
+use mathlib.Core.Path.{sym, ◌∙◌}
+use native.Mathlib.Omega.{arith}
+use borrow.Author.Count.{below_more}
+use Rattle.arith.proofs.Ranges.{found-is, found-none}
 use Rattle.grid.specs.Layer.{bit}
-use Rattle.table.specs.Entries.{wrong_from}
-use Rattle.table.proofs.Searching.{none-start, none_more, none_found, none_end}
 use Rattle.table.proofs.question.first_wrong.Goals as goal
-
-pub loop-b-init : goal.loop-b-init
-loop-b-init c = none-start
 
 pub returns-then-is_wrong : goal.returns-then-is_wrong
 unfolding bit
 returns-then-is_wrong c =
-    let tested : (let a = c.args in wrong_from a.table.now a.start a.marks c.loop-b.b ≡ c.is_wrong.result) =
-    sym c.is_wrong.ensures in
-    none_found c.loop-b.invariant c.loop-b-test.true (tested ∙ c.if-is_wrong.true)
+    found-is _ _ _ c.loop-b-test.true (sym c.is_wrong.ensures ∙ c.if-is_wrong.true) c.loop-b.invariant
 
 pub loop-b-preserved : goal.loop-b-preserved
 unfolding bit
-loop-b-preserved c =
-    let tested : (let a = c.args in wrong_from a.table.now a.start a.marks c.loop-b.b ≡ c.is_wrong.result) =
-    sym c.is_wrong.ensures in
-    none_more c.loop-b.invariant (tested ∙ c.if-is_wrong.false)
+loop-b-preserved c = below_more _ _ c.loop-b.invariant (sym c.is_wrong.ensures ∙ c.if-is_wrong.false)
 
 pub returns : goal.returns
-returns c = none_end c.loop-b.invariant c.loop-b-test.false
+returns c = found-none _ _ (λ k h. c.loop-b.invariant k (omega arith))

@@ -1,10 +1,8 @@
-use Prim.Native.Nat.{◌-◌}
+use mathlib.Core.Path.{◌≡◌}
+use mathlib.Core.Bool.{false}
+use Prim.Native.Nat.{ℕ, ◌<◌}
 use Rattle.table.specs.Entries.{wrong_from}
-use Rattle.table.proofs.Searching.{NoneBelow}
 use Rattle.table.proofs.question.first_wrong.Given as goal
 
 abbrev pub invariant-loop-b : goal.invariant-loop-b
-invariant-loop-b l = NoneBelow (wrong_from l.table l.start l.marks) l.b
-
-abbrev pub decreases-loop-b : goal.decreases-loop-b
-decreases-loop-b l = l.count - l.b
+invariant-loop-b l = (k : ℕ) → k < l.b → wrong_from l.run l.marks k ≡ false

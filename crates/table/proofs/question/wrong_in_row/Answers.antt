@@ -1,48 +1,32 @@
 -- `wrong_in_row` meets its contract. The invariant: no entry of the pieces passed is wrong. `here` is the piece of a turn; what follows from
 -- it is in proofs/Pieces, and what its search gives in proofs/Runs.
 use native.Mathlib.Omega.{arith}
-use Rattle.grid.specs.Layer.{layer_of}
-use Rattle.table.proofs.Pieces.{Piece, piece, piece-asked, lent-run, run-low}
-use Rattle.table.proofs.Runs.{row-begin, row-found, row-turn, row-end}
+use Rattle.std.proofs.lemmas.Grind.{div_ceil_times}
+use Rattle.table.proofs.Pieces.{piece, lent-run}
+use Rattle.table.proofs.Runs.{row-found, row-within, row-turn, row-end}
 use Rattle.table.proofs.question.wrong_in_row.Goals as goal
-use Rattle.table.proofs.question.wrong_in_row.Goals.{After-run_length-count}
 
-here : (c : After-run_length-count)
-    → let a = c.args in
-    Piece (layer_of a.size a.bitmap.now) a.vertical a.row c.loop-at.at c.row_start-start.result
-    c.stick_byte-marks.result c.run_length-count.result
-here c =
-    piece c.edge_columns-columns.ensures c.row_start-start.ensures c.stick_byte-marks.ensures c.run_length-count.ensures
+pub slice_bounds-first_wrong_fast-end : goal.slice_bounds-first_wrong_fast-end
+slice_bounds-first_wrong_fast-end c =
+    let here = piece c.edge_columns-columns.ensures c.row_start-start.ensures c.stick_byte-marks.ensures c.run_length-count.ensures in
+    (lent-run c.requires here).within
 
-pub loop-at-init : goal.loop-at-init
-loop-at-init c = row-begin
+pub overflow_add-result : goal.overflow_add-result
+overflow_add-result c =
+    let here = piece c.edge_columns-columns.ensures c.row_start-start.ensures c.stick_byte-marks.ensures c.run_length-count.ensures in
+    let within = row-within c.loop-at.invariant c.requires here c.first_wrong_fast.ensures c.in-Some.is in
+    omega (arith, within, here.small, c.loop-at.invariant.few)
 
-pub stick_byte-marks-requires : goal.stick_byte-marks-requires
-stick_byte-marks-requires c =
-    record { sound = (piece-asked c.edge_columns-columns.ensures c.requires c.loop-at-test.true).0; at_bound = (piece-asked c.edge_columns-columns.ensures c.requires c.loop-at-test.true).1.0; row_bound = (piece-asked c.edge_columns-columns.ensures c.requires c.loop-at-test.true).1.1 }
-
-pub overflow_add-start : goal.overflow_add-start
-overflow_add-start c = omega (arith, run-low c.requires (here c))
-
-pub first_wrong_fast-b-requires : goal.first_wrong_fast-b-requires
-first_wrong_fast-b-requires c = lent-run c.requires (here c)
-
-pub returns-then-b-count : goal.returns-then-b-count
-returns-then-b-count c =
-    let here : (let a = c.args in
-    Piece (layer_of a.size a.bitmap.now) a.vertical a.row c.loop-at.at c.row_start-start.result
-    c.stick_byte-marks.result c.run_length-count.result) =
-    piece c.edge_columns-columns.ensures c.row_start-start.ensures c.stick_byte-marks.ensures c.run_length-count.ensures in
-    row-found c.loop-at.invariant here c.first_wrong_fast-b.ensures c.if-b-count.true
+pub returns-in-Some : goal.returns-in-Some
+returns-in-Some c =
+    let here = piece c.edge_columns-columns.ensures c.row_start-start.ensures c.stick_byte-marks.ensures c.run_length-count.ensures in
+    row-found c.loop-at.invariant c.requires here c.first_wrong_fast.ensures c.in-Some.is
 
 pub loop-at-preserved : goal.loop-at-preserved
 loop-at-preserved c =
-    let here : (let a = c.args in
-    Piece (layer_of a.size a.bitmap.now) a.vertical a.row c.loop-at.at c.row_start-start.result
-    c.stick_byte-marks.result c.run_length-count.result) =
-    piece c.edge_columns-columns.ensures c.row_start-start.ensures c.stick_byte-marks.ensures c.run_length-count.ensures in
-    row-turn c.loop-at.invariant here c.first_wrong_fast-b.ensures c.requires c.if-b-count.false
+    let here = piece c.edge_columns-columns.ensures c.row_start-start.ensures c.stick_byte-marks.ensures c.run_length-count.ensures in
+    row-turn c.loop-at.invariant c.requires here c.first_wrong_fast.ensures c.in_default.is
 
 pub returns : goal.returns
 returns c =
-    row-end c.loop-at.invariant c.edge_columns-columns.ensures c.loop-at-test.false
+    row-end c.loop-at.invariant (omega (arith, div_ceil_times c.edge_columns-columns.result 8, c.div_ceil-at-end.ensures, c.edge_columns-columns.ensures))
