@@ -3,12 +3,11 @@ ghost use Rattle.std.specs.Prelude.{◌≡◌, ◌≤◌};
 ghost use Rattle.chord.specs.Crossing.{parted, meeting, total, crosses, slides_within};
 ghost use Rattle.chord.specs.Runs.{Near, NearEdge};
 
-use super::position::{
-    Position, across_of, along_of, base_of, distance_of, line_of, off_line, widen,
-};
+use super::position::{Position, across_of, along_of, base_of, line_of, off_line};
 use grid::Edge;
 
 // Whether p and q lie strictly on different sides of the edge's line.
+#[tactic(auto, unfolding(crate::specs::Crossing::parted))]
 fn are_parted(p: Position, q: Position, e: Edge) -> bool
     requires p_near { Near p }
     requires q_near { Near q }
@@ -18,13 +17,7 @@ fn are_parted(p: Position, q: Position, e: Edge) -> bool
     let from = across_of(e, p);
     let to = across_of(e, q);
     let line = line_of(e);
-    if from < line {
-        return line < to;
-    }
-    if to < line {
-        return line < from;
-    }
-    false
+    (from < line && line < to) || (to < line && line < from)
 }
 
 fn total_of(p: Position, q: Position, e: Edge) -> usize
@@ -48,6 +41,7 @@ fn meeting_of(p: Position, q: Position, e: Edge) -> usize
 }
 
 // Whether the chord crosses the edge, strictly between its two samples.
+#[tactic(auto, unfolding(crate::specs::Crossing::crosses))]
 pub fn crosses_stick(p: Position, q: Position, e: Edge) -> bool
     requires p_near { Near p }
     requires q_near { Near q }
@@ -60,13 +54,11 @@ pub fn crosses_stick(p: Position, q: Position, e: Edge) -> bool
     let whole = total_of(p, q, e);
     let met = meeting_of(p, q, e);
     let base = base_of(e);
-    if base * whole < met {
-        return met < (base + 256) * whole;
-    }
-    false
+    base * whole < met && met < (base + 256) * whole
 }
 
 // Whether a vertex at an offset of the edge slides to the chord by at most t.
+#[tactic(auto, unfolding(crate::specs::Crossing::slides_within))]
 pub fn slides_within(t: u8, p: Position, q: Position, e: Edge, offset: u8) -> bool
     requires p_near { Near p }
     requires q_near { Near q }
@@ -75,6 +67,6 @@ pub fn slides_within(t: u8, p: Position, q: Position, e: Edge, offset: u8) -> bo
 {
     let whole = total_of(p, q, e);
     let met = meeting_of(p, q, e);
-    let old = (base_of(e) + widen(offset)) * whole;
-    distance_of(met, old) <= widen(t) * whole
+    let old = (base_of(e) + usize::from(offset)) * whole;
+    met.abs_diff(old) <= usize::from(t) * whole
 }

@@ -1,7 +1,7 @@
 // Where a vertex is, and how a position lies to the grid line of an edge: along it, across it, and off it.
-ghost use Rattle.std.specs.Prelude.{◌≡◌, ◌≤◌, ◌<◌, pos, nat_abs};
+ghost use Rattle.std.specs.Prelude.{◌≡◌, ◌≤◌, pos, nat_abs};
 ghost use Rattle.chord.specs.Points.{position};
-ghost use Rattle.chord.specs.Crossing.{along, across, base, line, distance, off};
+ghost use Rattle.chord.specs.Crossing.{along, across, base, line, off};
 ghost use Rattle.chord.specs.Runs.{Near, NearEdge};
 
 use grid::Edge;
@@ -11,13 +11,6 @@ use grid::Edge;
 pub struct Position {
     pub x: usize,
     pub y: usize,
-}
-
-pub fn widen(x: u8) -> usize
-    ensures value { result ≡ x }
-    ensures upper_bound { result < 256 }
-{
-    x as usize
 }
 
 // A coordinate as a signed number.
@@ -35,7 +28,7 @@ pub fn position_of(e: Edge, offset: u8) -> Position
     ensures value { result ≡ position e offset }
     ensures near { Near result }
 {
-    let o = widen(offset);
+    let o = usize::from(offset);
     if e.vertical {
         Position {
             x: 256 * e.column,
@@ -91,18 +84,13 @@ pub fn line_of(e: Edge) -> usize
     }
 }
 
-pub fn distance_of(m: usize, n: usize) -> usize
-    ensures { result ≡ distance m n }
-{
-    if m < n { n - m } else { m - n }
-}
-
 // How far a position is off the line.
+#[tactic(auto, unfolding(crate::specs::Crossing::off))]
 pub fn off_line(e: Edge, p: Position) -> usize
     requires near_edge { NearEdge e }
     requires near { Near p }
     ensures value { result ≡ off e p }
     ensures upper_bound { result ≤ 262144 }
 {
-    distance_of(across_of(e, p), line_of(e))
+    across_of(e, p).abs_diff(line_of(e))
 }

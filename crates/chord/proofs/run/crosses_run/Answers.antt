@@ -1,32 +1,22 @@
--- `crosses_run` meets its contract. The invariant: the sticks that are left are crossed if all are.
-use mathlib.Core.Path.{sym, ◌∙◌}
-use Rattle.step.proofs.Following.{on-next, tests-no, tests-turn, tests-end}
+-- `crosses_run` meets its contract. The invariant: the sticks that are left are crossed if all are. Those that the search leaves: a stick that
+-- follows one is an edge of the largest layer, and one less is left after a turn.
+use mathlib.Core.Path.{◌≡◌, sym, ◌∙◌}
+use Prim.Native.Nat.{◌+◌, ◌-◌}
+use native.Mathlib.Omega.{arith}
+use Rattle.step.proofs.Following.{on-next, tests-turn}
 use Rattle.chord.proofs.Tests.{stick-near, run-start}
 use Rattle.chord.proofs.run.crosses_run.Goals as goal
 
-pub loop-left-init : goal.loop-left-init
-loop-left-init c =
-    run-start _ _ _ _ _ c.requires.stick
+pub loop-init : goal.loop-init
+loop-init c = run-start _ _ _ _ c.requires.stick (omega arith)
 
-pub next_stick-at-requires : goal.next_stick-at-requires
-next_stick-at-requires c =
-    record { sound = c.requires.sound; stick = c.loop-left.invariant.stick }
+pub crosses_stick-requires-clause-near_edge : goal.crosses_stick-requires-clause-near_edge
+crosses_stick-requires-clause-near_edge c =
+    let sound = c.args.layer.sound in
+    stick-near _ sound _ (on-next sound _ c.loop.invariant.stick c.next_stick-at.ensures)
 
-pub crosses_stick-requires : goal.crosses_stick-requires
-crosses_stick-requires c =
-    let given = c.requires in
-    let stick = on-next given.sound _ c.loop-left.invariant.stick c.next_stick-at.ensures in
-    record { p_near = given.p_near; q_near = given.q_near; near_edge = stick-near _ given.sound _ stick }
-
-pub returns-then-not-crosses_stick : goal.returns-then-not-crosses_stick
-returns-then-not-crosses_stick c =
-    tests-no c.loop-left.invariant c.loop-left-test.true c.next_stick-at.ensures
-    (sym c.crosses_stick.ensures ∙ c.if-not-crosses_stick.true)
-
-pub loop-left-preserved : goal.loop-left-preserved
-loop-left-preserved c =
-    tests-turn c.loop-left.invariant c.loop-left-test.true c.next_stick-at.ensures
-    c.requires.sound (sym c.crosses_stick.ensures ∙ c.if-not-crosses_stick.false)
-
-pub returns : goal.returns
-returns c = tests-end c.loop-left.invariant c.loop-left-test.false
+pub loop-preserved : goal.loop-preserved
+loop-preserved c =
+    let one-less : c.args.count - (c.loop.counter + 1) ≡ c.args.count - c.loop.counter - 1 = omega arith in
+    rw one-less (tests-turn c.loop.invariant (omega arith) c.next_stick-at.ensures c.args.layer.sound
+    (sym c.crosses_stick.ensures ∙ c.if-not-crosses_stick.false))
