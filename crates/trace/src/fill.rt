@@ -26,10 +26,8 @@ fn fill_run(table: &mut [u16], start: usize, count: usize, marks: u8)
     requires { LentRun table.old start count }
     ensures { table.new ≡ fill (traced_bit start marks) start count table.old }
 {
-    let mut b = 0;
-    while b < count {
+    for b in 0..count {
         table[start + b] = entry_at(marks, b);
-        b += 1;
     }
 }
 
@@ -39,12 +37,10 @@ fn fill_row(size: Size, bitmap: &[u8], table: &mut [u16], vertical: bool, row: u
 {
     let columns = grid::edge_columns(size, vertical);
     let start = grid::row_start(size, vertical, row);
-    let mut at = 0;
-    while 8 * at < columns {
+    for at in 0..columns.div_ceil(8) {
         let marks = mask::stick_byte(size, bitmap, vertical, at, row);
         let count = mask::run_length(columns, 8 * at);
         fill_run(table, start + 8 * at, count, marks);
-        at += 1;
     }
 }
 
@@ -52,11 +48,8 @@ fn fill_kind(size: Size, bitmap: &[u8], table: &mut [u16], vertical: bool)
     requires { Lent (layer_of size bitmap.now) table.old }
     ensures { table.new ≡ fill (traced_entry (layer_of size bitmap.now)) (kind_start size vertical) (edge_rows size vertical * edge_columns size vertical) table.old }
 {
-    let rows = grid::edge_rows(size, vertical);
-    let mut row = 0;
-    while row < rows {
+    for row in 0..grid::edge_rows(size, vertical) {
         fill_row(size, bitmap, table, vertical, row);
-        row += 1;
     }
 }
 
