@@ -1,50 +1,77 @@
 -- The entries of a traced table, written one by one in a run of eight, run by run in a row, row by row in a kind, and the two kinds. A turn of
 -- each loop writes the entries that come next.
-use mathlib.Core.Path.{◌≡◌, ap, sym, ◌∙◌}
+use mathlib.Core.Path.{◌≡◌, refl, ap, sym, ◌∙◌}
 use mathlib.Core.Bool.{Bool, true, false}
 use mathlib.Core.List.{List}
-use Prim.Native.Nat.{ℕ, ◌+◌, ◌-◌, ◌*◌, ◌<◌}
+use Prim.Native.Nat.{ℕ, zero, suc, ◌+◌, ◌-◌, ◌*◌, ◌<◌, ◌≤◌}
 use native.Mathlib.Nat.{add_assoc, zero-add}
 use native.Mathlib.Omega.{arith}
-use lib.ListN.{set}
+use lib.ListN.{length, get_or}
+use Rattle.std.proofs.lemmas.List.{get_or-set_other, ext_get_or, places}
+use borrow.Rule.Slice.PartMut.{put_mid, mid_of}
+use borrow.Author.Rules.{rules}
+use Rattle.std.proofs.lemmas.Grind.{common_steps}
+use mathlib.Core.Logic.{◌⊎◌, inl, inr}
+use native.Mathlib.Decide.{dec_lt}
 use Rattle.arith.specs.Ranges.{fill}
-use Rattle.arith.proofs.Ranges.{fill_more, fill-add, fill-same}
+use Rattle.arith.proofs.Ranges.{length-fill, fill-at, fill-add}
 use Rattle.grid.specs.Layer.{Layer, bit}
 use Rattle.grid.specs.Edges.{edge_columns, edge_rows, edge_count, kind_start, row_start, edge_at, is_stick}
 use Rattle.grid.proofs.Numbers.{edge_at-row, edges-split}
 use Rattle.table.specs.Lent.{Lent, LentRow}
-use Rattle.table.proofs.Pieces.{reached, Piece}
-use Rattle.trace.specs.Trace.{traced, traced_entry, traced_bit}
+use Rattle.table.proofs.Pieces.{reached, Piece, lent-run}
+use Rattle.trace.specs.Trace.{traced, traced_entry}
 
--- A run: entry b of it is written next
+-- A run: what is written to a part of the table
 
-pub run-turn : (t₀ : List ℕ) (start x b : ℕ) {t : List ℕ} {y : ℕ} → t ≡ fill (traced_bit start x) start b t₀ → y ≡ traced (bit x b)
-    → set t (start + b) y ≡ fill (traced_bit start x) start (b + 1) t₀
-run-turn t₀ start x b so_far e =
-    let back : start + b - start ≡ b = omega arith in
-    rw (so_far, e ∙ ap (λ (k : ℕ). traced (bit x k)) (sym back)) (fill_more (traced_bit start x) start b t₀)
+fill-outside : (f : ℕ → ℕ) (a n k : ℕ) (t : List ℕ) → (k < a) ⊎ (a + n ≤ k) → get_or (fill f a n t) k 0 ≡ get_or t k 0
+unfolding fill
+fill-outside f a zero k t out = refl
+fill-outside f a (suc n) k t (inl l) =
+    get_or-set_other (fill f a n t) (a + n) k (f (a + n)) 0 (λ e. omega arith) ∙ fill-outside f a n k t (inl l)
+fill-outside f a (suc n) k t (inr l) =
+    get_or-set_other (fill f a n t) (a + n) k (f (a + n)) 0 (λ e. omega arith) ∙ fill-outside f a n k t (inr (omega arith))
+
+pub part-filled : (f : ℕ → ℕ) (a n : ℕ) (t ys : List ℕ) → length ys ≡ n → a + n ≤ length t → ((k : ℕ) → k < n → get_or ys k 0 ≡ f (a + k))
+    → put_mid a n t ys ≡ fill f a n t
+part-filled f a n t ys len within here =
+    ext_get_or 0 (put_mid a n t ys) (fill f a n t) (grind (arith, common_steps, length-fill f a n t))
+    (λ k h. elim (dec_lt k a) [
+      | yes l ↦ (search (rules, places)) ∙ sym (fill-outside f a n k t (inl l))
+      | no l ↦ elim (dec_lt k (a + n)) [
+        | yes m ↦
+            let at : a + (k - a) ≡ k = omega arith in
+            let put : get_or (put_mid a n t ys) k 0 ≡ get_or ys (k - a) 0 = search (rules, places) in
+            put ∙ here (k - a) (omega arith) ∙ sym (fill-at f a n (k - a) 0 t (omega arith) within) ∙ ap (λ (i : ℕ). get_or (fill f a n t) i 0) at
+        | no m ↦ (search (rules, places)) ∙ sym (fill-outside f a n k t (inr (omega arith)))
+      ]
+    ])
 
 -- A row: its piece `at` is written next
 
-module _ {L : Layer} {v : Bool} {r : ℕ} {t₀ : List ℕ} {at start x n : ℕ} (given : LentRow L t₀ v r) (p : Piece L v r at start x n) where
-  abbrev first : ℕ
-  first = row_start L.size v r + 8 * at
+pub row-lent : {L : Layer} {t₀ t : List ℕ} {v : Bool} {r : ℕ} → LentRow L t₀ v r → length t ≡ length t₀ → LentRow L t v r
+row-lent given same = record { sound = given.sound; exact = same ∙ given.exact; row = given.row }
 
-  entry-same : (b : ℕ) → b < n → traced_bit first x (first + b) ≡ traced_entry L (first + b)
-  entry-same b h =
-      let back : first + b - first ≡ b = omega arith in
-      let edge = edge_at-row L.size given.sound.whole.sized v (8 * at + b) r (omega (arith, p.fits)) given.row in
-      ap (λ (k : ℕ). traced (bit x k)) back
-      ∙ ap traced
+module _ {L : Layer} {v : Bool} {r : ℕ} {t : List ℕ} {at start x n : ℕ} (lent : LentRow L t v r) (p : Piece L v r at start x n) where
+  abbrev from : ℕ
+  from = row_start L.size v r + 8 * at
+
+  entry-is : (b : ℕ) → b < n → traced (bit x b) ≡ traced_entry L (from + b)
+  entry-is b h =
+      let edge = edge_at-row L.size lent.sound.whole.sized v (8 * at + b) r (omega (arith, p.fits)) lent.row in
+      ap traced
       (p.marks.ones b (omega (arith, p.small)) ∙ ap (is_stick L) (sym (ap (edge_at L.size) (add_assoc (row_start L.size v r) (8 * at) b) ∙ edge)))
 
-  pub row-turn : {t u : List ℕ} → t ≡ fill (traced_entry L) (row_start L.size v r) (reached L.size v at) t₀
-      → u ≡ fill (traced_bit (start + 8 * at) x) (start + 8 * at) n t
-      → u ≡ fill (traced_entry L) (row_start L.size v r) (reached L.size v (at + 1)) t₀
-  row-turn {t} so_far e =
-      rw p.starts at e
-      ∙ fill-same (traced_bit first x) (traced_entry L) first n t entry-same
-      ∙ rw (so_far, ← p.from, fill-add, p.to)
+  pub row-turn : (t₀ run : List ℕ) → t ≡ fill (traced_entry L) (row_start L.size v r) (reached L.size v at) t₀
+      → length run ≡ length (mid_of (start + 8 * at) (start + 8 * at + n - (start + 8 * at)) t) → ((k : ℕ) → k < length run → get_or run k 0 ≡ traced (bit x k))
+      → put_mid (start + 8 * at) (start + 8 * at + n - (start + 8 * at)) t run ≡ fill (traced_entry L) (row_start L.size v r) (reached L.size v (at + 1)) t₀
+  row-turn t₀ run so_far len put =
+      let room = (lent-run lent p).within in
+      let all : length run ≡ n = len ∙ grind (arith, common_steps) in
+      let wide : from + n - from ≡ n = omega arith in
+      let within : from + n ≤ length t = rw p.starts at room in
+      rw (p.starts, wide)
+      (part-filled (traced_entry L) from n t run all within (λ k h. put k (omega arith) ∙ entry-is k h) ∙ rw (so_far, ← p.from, fill-add, p.to))
 
 -- A kind: its row r is written next
 

@@ -1,7 +1,7 @@
-use mathlib.Core.Path.{◌≡◌}
-use Rattle.arith.specs.Ranges.{fill}
-use Rattle.trace.specs.Trace.{traced_bit}
+use Rattle.std.proofs.Common.{◌≡◌, ℕ, ◌<◌, get_or}
+use Rattle.grid.specs.Layer.{bit}
+use Rattle.trace.specs.Trace.{traced}
 use Rattle.trace.proofs.fill.fill_run.Given as goal
 
 abbrev pub invariant-loop-b : goal.invariant-loop-b
-invariant-loop-b l = l.table ≡ fill (traced_bit l.start l.marks) l.start l.b l.initial.table
+invariant-loop-b l = (k : ℕ) → k < l.b → get_or l.run k 0 ≡ traced (bit l.marks k)
