@@ -19,4 +19,4 @@ sticks_left s = left_from (plain s.layer) s.first s.at
 
 -- the first sticks that are still to come
 abbrev pub firsts_left : FirstSticks → List Edge
-firsts_left s = firsts_from (walk_of (plain s.layer)) s.from
+firsts_left s = firsts_from (walk_of (plain s.contours.layer)) s.from

@@ -3,19 +3,18 @@ ghost use Rattle.std.specs.Prelude.{◌≡◌, ◌≤◌};
 ghost use Rattle.grid.specs.Plain.{plain};
 ghost use Rattle.bitset.specs.Sets.{set_bits};
 ghost use Rattle.contour.specs.Contours.{contour_count};
-ghost use Rattle.contour.specs.Sets.{FirstSet};
 
 use super::scan::first_sticks;
+use super::set::ContourSet;
 use bitset::{EdgeSet, WORDS, member_count};
 use grid::{Layer, kind_start};
 
 // All first sticks are horizontal.
-pub fn contours_in(layer: Layer, set: &EdgeSet) -> usize
-    requires { FirstSet (plain layer) set.now }
-    ensures value { result ≡ contour_count (plain layer.entry) }
+pub fn contours_in(contours: ContourSet) -> usize
+    ensures value { result ≡ contour_count (plain contours.entry.layer) }
     ensures upper_bound { result ≤ set_bits }
 {
-    member_count(set, kind_start(layer.size, true))
+    member_count(contours.firsts, kind_start(contours.layer.size, true))
 }
 
 pub fn count_contours(layer: Layer) -> usize
@@ -23,5 +22,8 @@ pub fn count_contours(layer: Layer) -> usize
 {
     let mut set: EdgeSet = [0; WORDS];
     first_sticks(layer, &mut set);
-    contours_in(layer, &set)
+    contours_in(ContourSet {
+        layer,
+        firsts: &set,
+    })
 }

@@ -5,10 +5,12 @@ mod ascent;
 mod count;
 mod lap;
 mod scan;
+mod set;
 mod walk;
 
 pub use ascent::FirstSticks;
 pub use count::{contours_in, count_contours};
 pub use lap::ContourWalk;
 pub use scan::{first_sticks, mark_contour};
+pub use set::ContourSet;
 pub use walk::{firsts_of, sticks_of};

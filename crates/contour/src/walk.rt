@@ -1,15 +1,14 @@
 // Going over the sticks of a contour, `for e in sticks_of(layer, first)`, and over all contours by the set of their first sticks,
-// `for first in firsts_of(layer, &set)`.
+// `for first in firsts_of(contours)`.
 ghost use Rattle.std.specs.Prelude.{◌≡◌, true};
 ghost use Rattle.grid.specs.Plain.{plain};
 ghost use Rattle.grid.specs.Edges.{is_stick};
 ghost use Rattle.contour.specs.Contours.{contour_of, first_sticks};
-ghost use Rattle.contour.specs.Sets.{FirstSet};
 ghost use Rattle.contour.specs.Remaining.{sticks_left, firsts_left};
 
 use super::ascent::FirstSticks;
 use super::lap::ContourWalk;
-use bitset::EdgeSet;
+use super::set::ContourSet;
 use grid::{Edge, Layer};
 
 // The sticks of the contour that starts at `first`, in the order of the walk.
@@ -25,13 +24,8 @@ pub fn sticks_of<'a>(layer: Layer<'a>, first: Edge) -> ContourWalk<'a>
 }
 
 // The first sticks, in the order of the contours.
-pub fn firsts_of<'a>(layer: Layer<'a>, set: &'a EdgeSet) -> FirstSticks<'a>
-    requires { FirstSet (plain layer) set.now }
-    ensures { firsts_left result ≡ first_sticks (plain layer.entry) }
+pub fn firsts_of<'a>(contours: ContourSet<'a>) -> FirstSticks<'a>
+    ensures { firsts_left result ≡ first_sticks (plain contours.entry.layer) }
 {
-    FirstSticks {
-        layer,
-        set,
-        from: 0,
-    }
+    FirstSticks { contours, from: 0 }
 }
