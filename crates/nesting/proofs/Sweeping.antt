@@ -129,14 +129,14 @@ module _ {L : Layer} {r end : ℕ} where
           ∙ ap (λ (k : ℕ). contours_around L k r) e
 
     pub byte-turn : {m : ℕ} → c + z < end → m ≡ contours_around L (c + z + 1) r
-        → ByteSwept L at r end (x / 2 ^ z / 2) (c + (z + 1)) m
+        → ByteSwept L at r end (x / 2 ^ z / 2) (c + z + 1) m
     byte-turn less counted =
-        let e : c + z + 1 ≡ c + (z + 1) = omega arith in
+        let e : c + (z + 1) ≡ c + z + 1 = omega arith in
         record {
-          left = left-next L false at r c x b.left z;
+          left = subst (λ (k : ℕ). Left L false at r k (x / 2 ^ z / 2)) e (left-next L false at r c x b.left z);
           in_byte = omega (arith, byte-room);
           reach = omega arith;
-          counted = counted ∙ ap (λ (k : ℕ). contours_around L k r) e;
+          counted = counted;
         }
 
   pub byte_last : {at x c n : ℕ} → ByteSwept L at r end x c n → Sound L → x ≡ 0 → n ≡ contours_around L (min (8 * at + 8) end) r
