@@ -44,18 +44,15 @@ other true b e = ap not e
 other false b e = ap not e
 
 module _ {L : Layer} {s : List ℕ} (bores : BoreSet L s) {r c n : ℕ} (here : SweptAt L r c n) where
-  here-within : WithinGrid L.size (east c r)
+  pub here-within : WithinGrid L.size (east c r)
   here-within = stick-within L bores.sound (east c r) here.stick
-
-  pub here-narrow : (c + 1 < L.size.width) × (r < L.size.height)
-  here-narrow = (omega (arith, here-within.column_below), omega (arith, here-within.row_below))
 
   pub here_place : r * (L.size.width - 1) + c < set_bits
   here_place =
       rw (horizontal-number L.size (east c r) refl) at (place-below L bores.sound (east c r) here.stick refl)
 
   pub here-few : n < 512
-  here-few = omega (arith, here.counted, around-few bores.sound c r (omega (arith, here-narrow)) here-narrow.1)
+  here-few = omega (arith, here.counted, around-few bores.sound c r (omega (arith, here-within.column_below)) (omega (arith, here-within.row_below)))
 
   -- inside and on a bore, or neither: one more is around; else one less
   module _ {inside bore : Bool} (is-inside : inside ≡ sample L c r) (is-bore : bore ≡ has s (r * (L.size.width - 1) + c)) where
@@ -89,23 +86,23 @@ module _ {L : Layer} {r end : ℕ} where
   pub byte-within : {c n : ℕ} → Sized L.size → Swept L r c n end → c / 8 < stride L.size
   byte-within {c} sized swept = omega (arith, swept.reach, swept.within, sized)
 
-  pub byte-start : {c n x y : ℕ} → Swept L r c n end → StickBits L false (c / 8) r x → (y ≡ x) × (y < 256)
+  pub byte-start : {c n x y : ℕ} → Swept L r c n end → StickBits L false (c / 8) r x → y ≡ x → y < 256
       → ByteSwept L (c / 8) r end (y / 2 ^ (c % 8)) c n
-  byte-start {c} {n} {x} {y} swept bits wide =
+  byte-start {c} {n} {x} {y} swept bits same wide =
       record {
         left =
             subst (λ (k : ℕ). Left L false (c / 8) r k (y / 2 ^ (c % 8))) (byte_of c)
-            (rw wide.0 (left-shift L false (c / 8) r (8 * (c / 8)) x (left-start L false (c / 8) r x bits (omega (arith, wide))) (c % 8)));
+            (rw same (left-shift L false (c / 8) r (8 * (c / 8)) x (left-start L false (c / 8) r x bits (omega arith)) (c % 8)));
         in_byte = omega (arith, byte_of c);
         reach = swept.reach;
         counted = swept.counted;
       }
 
-  module _ {at : ℕ} {x c n : ℕ} (b : ByteSwept L at r end x c n) {z : ℕ} (lowest : (z ≡ least (bit x) 64) × (z < 64)) where
+  module _ {at : ℕ} {x c n : ℕ} (b : ByteSwept L at r end x c n) {z : ℕ} (lowest : z ≡ least (bit x) 64) (low : z < 64) where
     found : (c + z < 8 * at + 8)
         × (is_stick L (east (c + z) r) ≡ true)
         × ((k : ℕ) → c ≤ k → k < c + z → is_stick L (east k r) ≡ false)
-    found = left-found L false at r c x b.left z lowest.0 lowest.1
+    found = left-found L false at r c x b.left z lowest low
 
     pub byte-room : c + z < 8 * at + 8
     byte-room = found.0

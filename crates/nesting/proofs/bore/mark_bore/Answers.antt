@@ -8,7 +8,8 @@ pub is_inside-requires : goal.is_inside-requires
 is_inside-requires c =
     let given = c.requires in
     let e = c.args.first in
-    record { whole = given.sound.whole; column_lt_width = (stick-sample _ given.sound e.vertical e.column e.row given.stick).0; row_lt_height = (stick-sample _ given.sound e.vertical e.column e.row given.stick).1 }
+    let within = stick-sample _ given.sound e.vertical e.column e.row given.stick in
+    record { whole = given.sound.whole; column_lt_width = within.0; row_lt_height = within.1 }
 
 pub returns-then-is_inside : goal.returns-then-is_inside
 returns-then-is_inside c =

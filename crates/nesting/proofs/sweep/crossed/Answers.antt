@@ -1,6 +1,6 @@
 -- `crossed` meets its contract: by whether the stick lies on a bore and its west end is inside.
 use native.Mathlib.Omega.{arith}
-use Rattle.nesting.proofs.Sweeping.{here-narrow, here_place, here-few, crossed-more, crossed-less}
+use Rattle.nesting.proofs.Sweeping.{here-within, here_place, here-few, crossed-more, crossed-less}
 use Rattle.nesting.proofs.sweep.crossed.Goals as goal
 
 pub overflow_mul-at : goal.overflow_mul-at
@@ -13,10 +13,10 @@ pub contains-bore-requires-clause-n_lt_set_bits : goal.contains-bore-requires-cl
 contains-bore-requires-clause-n_lt_set_bits c = let given = c.requires in here_place given.bore_set given.swept_at
 
 pub is_inside-requires-clause-column_lt_width : goal.is_inside-requires-clause-column_lt_width
-is_inside-requires-clause-column_lt_width c = let given = c.requires in omega (arith, here-narrow given.bore_set given.swept_at)
+is_inside-requires-clause-column_lt_width c = let given = c.requires in omega (arith, here-within given.bore_set given.swept_at)
 
 pub is_inside-requires-clause-row_lt_height : goal.is_inside-requires-clause-row_lt_height
-is_inside-requires-clause-row_lt_height c = let given = c.requires in omega (arith, here-narrow given.bore_set given.swept_at)
+is_inside-requires-clause-row_lt_height c = let given = c.requires in omega (arith, here-within given.bore_set given.swept_at)
 
 pub overflow_add-result : goal.overflow_add-result
 overflow_add-result c = let given = c.requires in omega (arith, here-few given.bore_set given.swept_at)

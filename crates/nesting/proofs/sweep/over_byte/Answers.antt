@@ -8,24 +8,24 @@ use Rattle.nesting.proofs.sweep.over_byte.Goals as goal
 pub loop-left-init : goal.loop-left-init
 loop-left-init c = record {
   in_row = refl;
-  swept = byte-start c.requires.swept c.stick_byte-byte.ensures (omega arith, omega arith);
+  swept = byte-start c.requires.swept c.stick_byte-byte.ensures c.from.ensures (omega arith);
 }
 
 pub returns-then-at-zeros : goal.returns-then-at-zeros
 returns-then-at-zeros c =
     let lowest = c.lowest_bit-zeros.ensures in
-    byte_past c.loop-left.invariant.swept (lowest.value, lowest.upper_bound) c.requires.bore_set.sound (omega arith)
+    byte_past c.loop-left.invariant.swept lowest.value lowest.upper_bound c.requires.bore_set.sound (omega arith)
 
 pub crossed-requires-clause-swept_at : goal.crossed-requires-clause-swept_at
 crossed-requires-clause-swept_at c =
     let at = c.loop-left.invariant in
     let lowest = c.lowest_bit-zeros.ensures in
-    rw at.in_row (byte-stick at.swept (lowest.value, lowest.upper_bound) c.requires.bore_set.sound)
+    rw at.in_row (byte-stick at.swept lowest.value lowest.upper_bound c.requires.bore_set.sound)
 
 pub loop-left-smaller : goal.loop-left-smaller
 loop-left-smaller c =
     let lowest = c.lowest_bit-zeros.ensures in
-    omega (arith, byte-room c.loop-left.invariant.swept (lowest.value, lowest.upper_bound))
+    omega (arith, byte-room c.loop-left.invariant.swept lowest.value lowest.upper_bound)
 
 pub loop-left-preserved : goal.loop-left-preserved
 loop-left-preserved c =
@@ -33,7 +33,7 @@ loop-left-preserved c =
     let lowest = c.lowest_bit-zeros.ensures in
     record {
       in_row = at.in_row;
-      swept = byte-turn at.swept (lowest.value, lowest.upper_bound) (omega arith) (rw at.in_row at c.crossed.ensures);
+      swept = byte-turn at.swept lowest.value lowest.upper_bound (omega arith) (rw at.in_row at c.crossed.ensures);
     }
 
 pub returns : goal.returns
