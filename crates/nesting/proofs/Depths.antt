@@ -30,7 +30,7 @@ module _ {L : Layer} {s : List ℕ} (bores : BoreSet L s) {c : Cursor} (placed :
   depth-there counted = counted ∙ sym (depth-around bores.sound c.stick (here-first placed more))
 
   -- from the row's start, which no contour is around
-  pub from-border : Swept L c.stick.row 0 0 c.stick.column
+  pub from-border : Swept L (record { row = c.stick.row; column = 0; around = 0 }) c.stick.column
   from-border = record {
     row_below = west-within.1;
     reach = omega arith;
@@ -40,7 +40,7 @@ module _ {L : Layer} {s : List ℕ} (bores : BoreSet L s) {c : Cursor} (placed :
 
   -- from the west end of another first stick in the same row
   pub from-other : {n : Nested} → NestedAt L n → n.at.more ≡ true → c.stick.row ≡ n.at.stick.row → n.at.stick.column ≤ c.stick.column
-      → Swept L c.stick.row n.at.stick.column n.depth c.stick.column
+      → Swept L (record { row = c.stick.row; column = n.at.stick.column; around = n.depth }) c.stick.column
   from-other {n} here there row reach = record {
     row_below = west-within.1;
     reach = reach;

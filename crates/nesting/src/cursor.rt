@@ -25,7 +25,7 @@ fn deepen(size: Size, bitmap: &[u8], bores: &EdgeSet, at: Cursor, from: Sweep) -
     requires bore_set { BoreSet (layer_of size bitmap.now) bores.now }
     requires placed { Placed (layer_of size bitmap.now) at }
     requires row { from.row ≡ at.stick.row }
-    requires swept { at.more ≡ true → Swept (layer_of size bitmap.now) from.row from.column from.around at.stick.column }
+    requires swept { at.more ≡ true → Swept (layer_of size bitmap.now) from at.stick.column }
     ensures { Deep (layer_of size bitmap.now) at result }
 {
     if !at.more {

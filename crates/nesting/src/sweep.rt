@@ -21,7 +21,7 @@ pub struct Sweep {
 // How many contours are around the sample east of the stick at which the sweep stands.
 fn crossed(size: Size, bitmap: &[u8], bores: &EdgeSet, at: Sweep) -> usize
     requires bore_set { BoreSet (layer_of size bitmap.now) bores.now }
-    requires swept_at { SweptAt (layer_of size bitmap.now) at.row at.column at.around }
+    requires swept_at { SweptAt (layer_of size bitmap.now) at }
     ensures { result ≡ contours_around (layer_of size bitmap.now) (at.column + 1) at.row }
 {
     let bore = contains(bores, at.row * (size.width - 1) + at.column);
@@ -36,7 +36,7 @@ fn crossed(size: Size, bitmap: &[u8], bores: &EdgeSet, at: Sweep) -> usize
 // stick, so a byte without one costs nothing more.
 fn over_byte(size: Size, bitmap: &[u8], bores: &EdgeSet, from: Sweep, end: usize) -> usize
     requires bore_set { BoreSet (layer_of size bitmap.now) bores.now }
-    requires swept { Swept (layer_of size bitmap.now) from.row from.column from.around end }
+    requires swept { Swept (layer_of size bitmap.now) from end }
     requires column_lt_end { from.column < end }
     ensures { result ≡ contours_around (layer_of size bitmap.now) (min (8 * (from.column / 8) + 8) end) from.row }
 {
@@ -59,7 +59,7 @@ fn over_byte(size: Size, bitmap: &[u8], bores: &EdgeSet, from: Sweep, end: usize
 // How many contours are around the sample at column `end` of the sweep's row.
 pub fn around_at(size: Size, bitmap: &[u8], bores: &EdgeSet, from: Sweep, end: usize) -> usize
     requires bore_set { BoreSet (layer_of size bitmap.now) bores.now }
-    requires swept { Swept (layer_of size bitmap.now) from.row from.column from.around end }
+    requires swept { Swept (layer_of size bitmap.now) from end }
     ensures { result ≡ contours_around (layer_of size bitmap.now) end from.row }
 {
     let mut at = from;

@@ -4,4 +4,4 @@ use Rattle.nesting.proofs.Sweeping.{row_last}
 use Rattle.nesting.proofs.sweep.around_at.Goals as goal
 
 pub returns : goal.returns
-returns c = row_last c.loop-at.invariant.swept (omega arith)
+returns c = let at = c.loop-at.invariant in rw at.in_row at (row_last at.swept (omega arith))

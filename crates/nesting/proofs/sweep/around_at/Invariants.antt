@@ -7,7 +7,7 @@ use Rattle.nesting.proofs.sweep.around_at.Given as goal
 abbrev pub invariant-loop-at : goal.invariant-loop-at
 invariant-loop-at l = record {
   in_row : l.at.row ≡ l.fn.from.row;
-  swept : Swept (layer_of l.size l.bitmap) l.fn.from.row l.at.column l.at.around l.end;
+  swept : Swept (layer_of l.size l.bitmap) l.at l.end;
 }
 
 abbrev pub decreases-loop-at : goal.decreases-loop-at
