@@ -1,10 +1,7 @@
 -- `next_nested` meets its contract: the sweep begins where the cursor stands, if that is in the same row, and else at the border.
 use native.Mathlib.Omega.{arith}
-use Rattle.nesting.proofs.Depths.{from-other, moved-nested}
+use Rattle.nesting.proofs.Depths.{from-other}
 use Rattle.nesting.proofs.cursor.next_nested.Goals as goal
-
-pub deepen-requires-clause-placed : goal.deepen-requires-clause-placed
-deepen-requires-clause-placed c = c.next_contour-next.ensures.placed
 
 pub deepen-requires-clause-swept : goal.deepen-requires-clause-swept
 deepen-requires-clause-swept c =
@@ -12,12 +9,3 @@ deepen-requires-clause-swept c =
     λ more.
     from-other given.bore_set c.next_contour-next.ensures.placed more given.nested_at given.more (omega (arith, c.if-next-here.true))
     c.if-here-next.true
-
-pub returns-then-here-next : goal.returns-then-here-next
-returns-then-here-next c = moved-nested c.deepen.ensures c.next_contour-next.ensures
-
-pub deepen_from_border-requires-clause-placed : goal.deepen_from_border-requires-clause-placed
-deepen_from_border-requires-clause-placed c = c.next_contour-next.ensures.placed
-
-pub returns : goal.returns
-returns c = moved-nested c.deepen_from_border.ensures c.next_contour-next.ensures

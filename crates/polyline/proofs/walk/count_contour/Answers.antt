@@ -17,10 +17,8 @@ entry_at-requires c = has-entry (tally-here c.requires c.loop-kept.invariant)
 pub overflow_add-kept : goal.overflow_add-kept
 overflow_add-kept c = omega (arith, tally-few c.requires c.loop-kept.invariant)
 
-pub next_stick-stick-requires : goal.next_stick-stick-requires
-next_stick-stick-requires c =
-    let here = tally-here c.requires c.loop-kept.invariant in
-    record { sound = here.sound; stick = here.stick }
+pub next_stick-stick-requires-clause-stick : goal.next_stick-stick-requires-clause-stick
+next_stick-stick-requires-clause-stick c = (tally-here c.requires c.loop-kept.invariant).stick
 
 pub loop-kept-smaller : goal.loop-kept-smaller
 loop-kept-smaller c =

@@ -23,8 +23,8 @@ put_item-at-requires c =
     let kept = sym (c.is_kept.ensures ∙ ap is_kept c.entry_at.ensures) in
     rw c.item_at.ensures (writes-room c.requires.lent_at c.loop-items.invariant (kept ∙ c.if-is_kept.true))
 
-pub next_stick-e-requires : goal.next_stick-e-requires
-next_stick-e-requires c = let here = writes-here c.requires.lent_at c.loop-items.invariant in record { sound = here.sound; stick = here.stick }
+pub next_stick-e-requires-clause-stick : goal.next_stick-e-requires-clause-stick
+next_stick-e-requires-clause-stick c = (writes-here c.requires.lent_at c.loop-items.invariant).stick
 
 pub loop-items-smaller : goal.loop-items-smaller
 loop-items-smaller c =
