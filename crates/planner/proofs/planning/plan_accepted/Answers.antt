@@ -22,17 +22,12 @@ returns-then-points-kept c =
     let a = c.args in
     refused-points counts a.items.now a.points.now c.if-points-kept.true
 
-pub write_list-requires : goal.write_list-requires
-write_list-requires c =
+pub write_list-requires-clause-room : goal.write_list-requires-clause-room
+write_list-requires-clause-room c =
     let many = c.contours_in.ensures in
     let counts = tallied c.requires.accepted c.count_kept-kept.ensures many.value many.upper_bound in
-    let given = c.requires in
     let a = c.args in
-    record {
-      accepted = given.accepted;
-      first_set = given.first_set;
-      room = list-fits counts a.items.now a.points.now c.if-items-bytes.false c.if-points-kept.false;
-    }
+    list-fits counts a.items.now a.points.now c.if-items-bytes.false c.if-points-kept.false
 
 pub returns : goal.returns
 returns c =
