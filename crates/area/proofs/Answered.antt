@@ -24,6 +24,8 @@ use Rattle.drawn.specs.Drawn.{drawn_by_number}
 use Rattle.drawn.proofs.DrawnEdges.{number-many}
 use Rattle.held.specs.Questions.{Accepted, held_questions}
 use Rattle.shoelace.specs.Adds.{edge_adds}
+use Rattle.held.proofs.Asking.{accepted-of}
+use Rattle.shoelace.specs.Running.{AllSummed}
 use Rattle.shoelace.specs.Sums.{sums_after, sums_of, total_of, drawn_count}
 use Rattle.area.specs.Areas.{twice_area, areas_of}
 use Rattle.area.specs.Call.{has_room, room_answer, Outcome, outcome, measure_of}
@@ -46,6 +48,10 @@ sums-many L t =
 pub edges-many : {L : Layer} {t : List ℕ} → Accepted L t → count (kept_entry t) (length t) ≡ drawn_count L t
 edges-many {L} {t} accepted =
     ap (count (kept_entry t)) accepted.exact ∙ sym (number-many L t accepted.sound accepted.entries)
+
+-- as code counts them
+pub drawn-is : (L : Layer) (t : List ℕ) {n : ℕ} → first_no (held_questions L t) ≡ Yes → n ≡ count (kept_entry t) (length t) → n ≡ drawn_count L t
+drawn-is L t held kept = kept ∙ edges-many (accepted-of L t held)
 
 module _ (L : Layer) (t : List ℕ) (areas sums : List ℤ) where
   -- the outcome, by the answer to all questions
@@ -70,14 +76,25 @@ module _ (L : Layer) (t : List ℕ) (areas sums : List ℤ) where
         (sym (append-yes (held_questions L t) (room_answer L t areas sums ∷ []) yes)
         ∙ sym (first-only (room_answer L t areas sums)) ∙ ap (ask ShortOutput) e)
 
-    pub measured-short-areas : length areas < contour_count L → measure_of L t areas sums ≡ outcome (Refused ShortOutput 0) areas sums
-    measured-short-areas l = by-room false (rw (lt-leb (contour_count L) (length areas) l))
+    pub measured-short-areas : {n : ℕ} → n ≡ contour_count L → length areas < n → outcome (Refused ShortOutput 0) areas sums ≡ measure_of L t areas sums
+    measured-short-areas many l = sym (by-room false (rw (lt-leb (contour_count L) (length areas) (rw many at l))))
 
-    pub measured-short-sums : length sums < drawn_count L t → measure_of L t areas sums ≡ outcome (Refused ShortOutput 0) areas sums
-    measured-short-sums l = by-room false (and-short (leb (contour_count L) (length areas)) _ (lt-leb (drawn_count L t) (length sums) l))
+    pub measured-short-sums : {n : ℕ} → n ≡ count (kept_entry t) (length t) → length sums < n
+        → outcome (Refused ShortOutput 0) areas sums ≡ measure_of L t areas sums
+    measured-short-sums kept l =
+        sym (by-room false (and-short (leb (contour_count L) (length areas)) _ (lt-leb (drawn_count L t) (length sums) (rw (drawn-is L t yes kept) at l))))
 
     pub measured-done : contour_count L ≤ length areas → drawn_count L t ≤ length sums → measure_of L t areas sums ≡ done_outcome
     measured-done l m = by-room true (rw (le-leb (contour_count L) (length areas) l, le-leb (drawn_count L t) (length sums) m))
+
+    -- by what the calls give
+    pub measured-all : {n m : ℕ} {total : ℤ} {areas' sums' : List ℤ} → n ≡ contour_count L → m ≡ count (kept_entry t) (length t) → n ≤ length areas
+        → m ≤ length sums → areas' ≡ sets areas 0 (areas_of L t) → AllSummed L t sums sums' total
+        → outcome (Done n m total) areas' sums' ≡ measure_of L t areas sums
+    measured-all many kept room-areas room-sums put all =
+        let drawn = drawn-is L t yes kept in
+        (λ i. outcome (Done (many i) (drawn i) (all.last i)) (put i) (all.put i))
+        ∙ sym (measured-done (rw many at room-areas) (rw drawn at room-sums))
 
   -- a call that is done had a yes to all questions
   pub record AllYes : Type 0 where

@@ -8,19 +8,15 @@ use native.Mathlib.Omega.{arith}
 use lib.IntN.{ℤ}
 use lib.ListN.{length, set, length-set, length-map}
 use lib.Seq.{sets}
-use Rattle.arith.proofs.Ranges.{count-le}
 use Rattle.grid.specs.Layer.{Layer}
-use Rattle.grid.specs.Edges.{edge_at, edge_count}
 use Rattle.grid.specs.declared.edge.Edge.{Edge}
-use Rattle.grid.proofs.Numbers.{edges-small}
-use Rattle.contour.specs.Walk.{first}
-use Rattle.contour.specs.Contours.{walk_of, contour_of, first_sticks}
+use Rattle.contour.specs.Contours.{first_sticks}
 use Rattle.contour.specs.Sets.{FirstSet}
 use Rattle.contour.specs.Cursors.{left, Placed, Opened, Moved}
 use Rattle.contour.specs.declared.cursor.Cursor.{Cursor}
-use Rattle.contour.proofs.Contours.{length-contours}
-use Rattle.contour.proofs.Cursors.{here-left, none_left}
+use Rattle.contour.proofs.Cursors.{here-left, here-stick, none_left}
 use Rattle.held.specs.Questions.{Accepted}
+use Rattle.shoelace.specs.Adds.{HeldStick}
 use Rattle.area.specs.Areas.{twice_area, areas_of}
 
 -- the numbers of some contours
@@ -40,18 +36,10 @@ module _ {L : Layer} {t : List ℕ} {found : List ℤ} where
       record { placed = o.placed; stored = rw o.left refl; same_length = refl; counted = rw o.left (omega arith) }
 
   module _ {buffer : List ℤ} {place : ℕ} {c : Cursor} (part : PartMeasured L t found buffer place c) where
-    pub measured-few : Accepted L t → place ≤ 2095104
-    measured-few all =
-        omega (
-          arith,
-          part.counted,
-          length-map (first_sticks L) (contour_of L),
-          length-contours (walk_of L),
-          count-le (λ k. first (walk_of L) (edge_at L.size k)) (edge_count L.size),
-          edges-small L.size all.sound.whole.sized,
-        )
-
     module _ {m : List ℕ} (firsts : FirstSet L m) where
+      pub measured-held : Accepted L t → c.more ≡ true → HeldStick L t c.stick
+      measured-held accepted more = record { accepted = accepted; stick = here-stick firsts part.placed more }
+
       pub measured-room : c.more ≡ true → length (areas_of L t) ≤ length found → place < length buffer
       measured-room more room =
           omega (

@@ -72,8 +72,7 @@ pub fn areas(
         height: h as usize,
     };
     let mut set: EdgeSet = [0; WORDS];
-    let answer = held::ask_held_firsts(size, bitmap, table, &mut set);
-    match answer {
+    match held::ask_held_firsts(size, bitmap, table, &mut set) {
         Answer::Yes => measure_held(size, bitmap, table, &set, areas, sums),
         Answer::No(q, place) => Measured::Refused(q, place),
     }

@@ -1,33 +1,71 @@
 // Twice the signed area of one contour, by one walk over it.
-ghost use Rattle.std.specs.Prelude.{◌≡◌};
+ghost use Rattle.std.specs.Prelude.{◌≡◌, ◌+◌, ◌^◌, ◌≤◌, ◌+ℤ◌, nat_abs};
 ghost use Rattle.grid.specs.Layer.{layer_of};
+ghost use Rattle.chord.specs.Runs.{NearEdge};
 ghost use Rattle.shoelace.specs.Adds.{HeldStick};
-ghost use Rattle.area.specs.Measuring.{trail_to, AreaFound};
+ghost use Rattle.area.specs.Measuring.{NearTrail, past, closing, AreaFound};
 
-use chord::Position;
+use chord::{Position, position_of};
 use contour::same_edge;
-use drawn::vertex_at;
 use grid::{Edge, Size};
 use shoelace::cross_of;
 use step::next_stick;
-use table::{entry_at, is_kept};
+use table::{Entry, entry_at, is_kept, offset_in};
 
-// The first and the last kept vertex that a walk has passed. Before there is one, both are the origin, from where an edge adds nothing.
+// The first and the last kept vertex that a walk has passed.
 #[derive(Clone, Copy)]
 pub struct Trail {
-    pub begun: bool,
     pub begin: Position,
     pub last: Position,
 }
 
-// The trail past one more kept vertex.
-fn trail_to(trail: Trail, here: Position) -> Trail
-    ensures { result ≡ trail_to trail here }
-{
-    Trail {
-        begun: true,
-        begin: if trail.begun { trail.begin } else { here },
-        last: here,
+// What the drawn edges add that end at a vertex passed, and the trail, none before the first kept vertex.
+#[derive(Clone, Copy)]
+pub struct Walked {
+    pub area: i64,
+    pub trail: Option<Trail>,
+}
+
+impl Walked {
+    // Past the stick e: if its vertex is kept, the drawn edge that ends there is added.
+    fn pass(&mut self, e: Edge, entry: Entry)
+        requires edge { NearEdge e }
+        requires trail { NearTrail self.old.trail }
+        requires small { nat_abs self.old.area ≤ 2 ^ 58 }
+        ensures value { self.new ≡ past self.old e entry }
+        ensures trail { NearTrail self.new.trail }
+        ensures bounded { nat_abs self.new.area ≤ nat_abs self.old.area + 2 ^ 37 }
+    {
+        if !is_kept(entry) {
+            return;
+        }
+        let here = position_of(e, offset_in(entry));
+        match self.trail {
+            Some(trail) => {
+                self.area += cross_of(trail.last, here);
+                self.trail = Some(Trail {
+                    begin: trail.begin,
+                    last: here,
+                });
+            }
+            None => self.trail = Some(Trail {
+                begin: here,
+                last: here,
+            }),
+        }
+    }
+
+    // The sum once the edge from the last kept vertex to the first is added too.
+    fn closed(self) -> i64
+        requires trail { NearTrail self.trail }
+        requires small { nat_abs self.area ≤ 2 ^ 58 }
+        ensures value { result ≡ self.area +ℤ closing self.trail }
+        ensures bounded { nat_abs result ≤ nat_abs self.area + 2 ^ 37 }
+    {
+        match self.trail {
+            Some(trail) => self.area + cross_of(trail.last, trail.begin),
+            None => self.area,
+        }
     }
 }
 
@@ -37,24 +75,17 @@ pub fn contour_area(size: Size, bitmap: &[u8], table: &[u16], first: Edge) -> i6
     requires { HeldStick (layer_of size bitmap.now) table.now first }
     ensures { AreaFound (layer_of size bitmap.now) table.now first result }
 {
-    let mut area: i64 = 0;
-    let mut trail = Trail {
-        begun: false,
-        begin: Position { x: 0, y: 0 },
-        last: Position { x: 0, y: 0 },
+    let mut walked = Walked {
+        area: 0,
+        trail: None,
     };
     let mut e = first;
     loop {
-        let kept = is_kept(entry_at(size, table, e));
-        if kept {
-            let here = vertex_at(size, table, e);
-            area += cross_of(trail.last, here);
-            trail = trail_to(trail, here);
-        }
+        walked.pass(e, entry_at(size, table, e));
         e = next_stick(size, bitmap, e);
         if same_edge(e, first) {
             break;
         }
     }
-    area + cross_of(trail.last, trail.begin)
+    walked.closed()
 }

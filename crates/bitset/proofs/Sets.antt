@@ -6,14 +6,16 @@ use mathlib.Core.List.{List}
 use Prim.Native.Nat.{ℕ, ◌+◌, ◌-◌, ◌*◌, ◌/◌, ◌%◌, ◌^◌, ◌≤◌, ◌<◌, min}
 use native.Mathlib.Decide.{ℕ_discrete, dec_lt}
 use native.Mathlib.Omega.{arith}
-use borrow.Author.Tests.{lt-ltb, le-ltb}
+use borrow.Author.Tests.{lt-ltb, le-ltb, ltb-true, ltb-false}
 use lib.Bits.{bit_or, bit_xor}
 use lib.Dec.{ltb}
 use lib.ListN.{length, get_or, set, length-set, replicate, length-replicate, get_or-replicate, get_or-eq_default}
 use lib.Seq.{get_or-set_same, get_or-set_other}
-use Rattle.std.specs.Prelude.{Some, None}
+use Rattle.std.specs.Prelude.{Option, Some, None}
 use Rattle.arith.specs.Ranges.{count, least, least_from}
 use Rattle.arith.proofs.Ranges.{least_from-is, least_from-none, least_from-le, least_from-below, least_from-holds}
+use Rattle.arith.specs.Finite.{Least}
+use Rattle.arith.proofs.Booleans.{both-sides}
 use Rattle.arith.proofs.Counting.{CountedTo, counted-turn}
 use Rattle.arith.proofs.Finite.{least-from}
 use Rattle.grid.specs.Layer.{bit}
@@ -157,6 +159,23 @@ next-none t from end e = rw (sym e, le-ltb end end (omega arith))
 pub search-none : (t : List ℕ) {from end : ℕ} → from ≡ end → None ≡ next_of t from end
 search-none t {from} {end} e =
     next-none t from end (sym (least_from-none (has t) from (end - from) (λ j l u. absurd (omega arith)) ∙ omega arith))
+
+-- what the option says: the least number from `from` on, or that there is none
+module _ (t : List ℕ) (from end : ℕ) {x : Option ℕ} (e : x ≡ next_of t from end) where
+  pub next-found : {n : ℕ} → x ≡ Some n → (n < end) × Least (has t) from (end - from) n
+  unfolding next_of
+  next-found {n} s = both-sides (ltb (next_in t from end) end)
+      (λ y.
+      let found : Some n ≡ Some (next_in t from end) = sym s ∙ e ∙ rw y in
+      let same : n ≡ next_in t from end = cc in
+      (omega (arith, same, ltb-true (next_in t from end) end y), rw same (least-from (has t) from (end - from))))
+      (λ y. let none : ◌≡◌ {A = Option ℕ} (Some n) None = sym s ∙ e ∙ rw y in absurd cc)
+
+  pub next-missing : x ≡ None → (j : ℕ) → from ≤ j → j < end → has t j ≡ false
+  unfolding next_of
+  next-missing s j l u = both-sides (ltb (next_in t from end) end)
+      (λ y. let some : ◌≡◌ {A = Option ℕ} None (Some (next_in t from end)) = sym s ∙ e ∙ rw y in absurd cc)
+      (λ y. least_from-below (has t) from (end - from) j l (omega (arith, ltb-false (next_in t from end) end y)))
 
 -- A search word by word: no number from `from` on and before the word is in the set
 

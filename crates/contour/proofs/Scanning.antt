@@ -1,7 +1,7 @@
 -- What the loops of the scan keep: along a contour that is marked, along the sticks of a byte, and from row to row.
-use mathlib.Core.Path.{◌≡◌, refl, ap, sym, ◌∙◌}
+use mathlib.Core.Path.{◌≡◌, ap, sym, ◌∙◌}
 use mathlib.Core.Bool.{true, false}
-use mathlib.Core.List.{List, foldl}
+use mathlib.Core.List.{List, foldl, [], ◌∷◌}
 use Prim.Native.Nat.{ℕ, ◌+◌, ◌-◌, ◌*◌, ◌/◌, ◌^◌, ◌≤◌, ◌<◌}
 use native.Mathlib.Omega.{arith}
 use lib.ListN.{length}
@@ -12,55 +12,49 @@ use Rattle.grid.specs.Questions.{Sound}
 use Rattle.grid.specs.declared.edge.Edge.{Edge}
 use Rattle.grid.proofs.Samples.{last_byte}
 use Rattle.bitset.specs.Sets.{words, set_bits, Empty, with_number}
-use Rattle.step.specs.Walk.{next}
 use Rattle.step.proofs.Walks.{stick-within}
-use Rattle.contour.specs.Walk.{rest}
-use Rattle.contour.specs.Contours.{walk_of, contour_of, same_edge}
+use Rattle.contour.specs.Contours.{contour_of}
 use Rattle.contour.specs.Sets.{FirstSet}
 use Rattle.contour.specs.Marking.{mark_edge, Markable, Scanned, ScannedTo, ScannedAt}
-use Rattle.contour.proofs.Loop.{Due, start, due-one, due-next, turn, shorter, last}
-use Rattle.contour.proofs.Sticks.{laws}
+use Rattle.contour.proofs.Laps.{OnLap, on_lap, due-stick, lap-turn}
+use Rattle.contour.proofs.Firsts.{fold-turn, fold_end}
 use Rattle.contour.proofs.Bytes.{Left, left-start, left-found, left-next, left-done}
 use Rattle.contour.proofs.Scans.{horizontal-number, place-below, mark-horizontal, length-mark, same_place, scan-skip, scan-start, scan-end}
 
 -- Along the contour of f, which is marked in the set t₀: the walk stands at e, and marking what is left of it in t marks the whole
 
-pub record PartMarked (L : Layer) (t₀ : List ℕ) (f : Edge) (t : List ℕ) (e : Edge) : Type 0 where
+pub record PartMarked (L : Layer) (t₀ : List ℕ) (f : Edge) (t : List ℕ) (left : List Edge) : Type 0 where
   pub sized : length t ≡ words
-  pub due : Due (walk_of L) f e
-  pub still : foldl (mark_edge L.size) t (rest (walk_of L) e f) ≡ foldl (mark_edge L.size) t₀ (contour_of L f)
+  pub lap : OnLap L f left
+  pub still : foldl (mark_edge L.size) t left ≡ foldl (mark_edge L.size) t₀ (contour_of L f)
 
 module _ {L : Layer} {t₀ : List ℕ} {f : Edge} where
-  pub marks-start : Markable L t₀ f → PartMarked L t₀ f t₀ f
-  marks-start given =
-      record { sized = given.sized; due = start (walk_of L) (laws L given.sound) f given.stick; still = refl }
+  pub marks-start : Markable L t₀ f → {left : List Edge} → left ≡ contour_of L f → PartMarked L t₀ f t₀ left
+  marks-start given e =
+      record { sized = given.sized; lap = on_lap given.sound given.stick e; still = ap (foldl (mark_edge L.size) t₀) e }
 
-  module _ (sound : Sound L) {t : List ℕ} {e : Edge} (m : PartMarked L t₀ f t e) where
-    pub marks-stick : is_stick L e ≡ true
-    marks-stick = due-one (walk_of L) (laws L sound) f e m.due
+  module _ {t : List ℕ} {left : List Edge} (m : PartMarked L t₀ f t left) where
+    module _ (sound : Sound L) {e : Edge} {left' : List Edge} (next : left ≡ e ∷ left') where
+      marks-stick : is_stick L e ≡ true
+      marks-stick = due-stick sound m.lap next
 
-    -- a horizontal stick has a bit, which the work sets
-    pub marks-place : e.vertical ≡ false → e.row * (L.size.width - 1) + e.column < set_bits
-    marks-place flat = rw (horizontal-number L.size e flat) at (place-below L sound e marks-stick flat)
+      -- a horizontal stick has a bit, which the work sets
+      pub marks-place : e.vertical ≡ false → e.row * (L.size.width - 1) + e.column < set_bits
+      marks-place flat = rw (horizontal-number L.size e flat) at (place-below L sound e marks-stick flat)
 
-    pub marks-flat : e.vertical ≡ false → with_number t (e.row * (L.size.width - 1) + e.column) ≡ mark_edge L.size t e
-    marks-flat flat = sym (ap (with_number t) (horizontal-number L.size e flat)) ∙ sym (mark-horizontal L.size t e flat)
+      pub marks-flat : e.vertical ≡ false → with_number t (e.row * (L.size.width - 1) + e.column) ≡ mark_edge L.size t e
+      marks-flat flat = sym (ap (with_number t) (horizontal-number L.size e flat)) ∙ sym (mark-horizontal L.size t e flat)
 
-    module _ {e' : Edge} (step : e' ≡ next L e) where
-      pub marks-less : same_edge e' f ≡ false → length (rest (walk_of L) e' f) < length (rest (walk_of L) e f)
-      marks-less s = shorter (walk_of L) (laws L sound) f e e' m.due step s
+      pub marks-turn : {t' : List ℕ} → t' ≡ mark_edge L.size t e → PartMarked L t₀ f t' left'
+      marks-turn work =
+          record {
+            sized = ap length work ∙ length-mark L sound t e m.sized marks-stick;
+            lap = lap-turn sound m.lap next;
+            still = rw work (fold-turn (mark_edge L.size) t _ next m.still);
+          }
 
-      module _ {t' : List ℕ} (work : t' ≡ mark_edge L.size t e) where
-        pub marks-turn : same_edge e' f ≡ false → PartMarked L t₀ f t' e'
-        marks-turn s =
-            record {
-              sized = ap length work ∙ length-mark L sound t e m.sized marks-stick;
-              due = due-next (walk_of L) (laws L sound) f e e' m.due step;
-              still = rw work (turn (walk_of L) (laws L sound) f e e' m.due step s (mark_edge L.size) t _ m.still);
-            }
-
-        pub marks-last : same_edge e' f ≡ true → t' ≡ foldl (mark_edge L.size) t₀ (contour_of L f)
-        marks-last s = work ∙ last (walk_of L) (laws L sound) f e e' m.due step s (mark_edge L.size) t _ m.still
+    pub marks-end : left ≡ [] → t ≡ foldl (mark_edge L.size) t₀ (contour_of L f)
+    marks-end over = fold_end (mark_edge L.size) t _ over m.still
 
 -- Along the byte `at` of row r: the scan stands at column c, and x has the bits of the columns from there on
 

@@ -18,11 +18,11 @@ T_of e = rw e tt
 
 pub same-edge : (e f : Edge) → same_edge e f ≡ true → e ≡ f
 same-edge e f h =
-    let a = and_split (beq e.vertical f.vertical && eqb e.column f.column) (eqb e.row f.row) h in
-    let b = and_split (beq e.vertical f.vertical) (eqb e.column f.column) a.0 in
-    let v = beq→eq e.vertical f.vertical (T_of b.0) in
-    let c = eqb-true e.column f.column b.1 in
-    let r = eqb-true e.row f.row a.1 in
+    let a = and_split (beq e.vertical f.vertical) (eqb e.column f.column && eqb e.row f.row) h in
+    let b = and_split (eqb e.column f.column) (eqb e.row f.row) a.1 in
+    let v = beq→eq e.vertical f.vertical (T_of a.0) in
+    let c = eqb-true e.column f.column b.0 in
+    let r = eqb-true e.row f.row b.1 in
     λ i. record { vertical = v i; column = c i; row = r i }
 
 pub same_self : (e : Edge) → same_edge e e ≡ true

@@ -1,15 +1,15 @@
 -- The contours of a layer: the walk from stick to stick, the list of sticks that it passes until it comes back, and all such lists in order.
-use Rattle.std.specs.Prelude.{◌≡◌, Bool, cond, ◌&&◌, ◌||◌, List, ℕ, eqb, ltb, length}
+use Rattle.std.specs.Prelude.{◌≡◌, Option, Some, Bool, cond, ◌&&◌, ◌||◌, List, ℕ, eqb, ltb, length}
 use Rattle.std.specs.Bool.{beq}
 use Rattle.arith.specs.Booleans.{as_number}
 use Rattle.grid.specs.Layer.{Layer}
 use Rattle.grid.specs.Edges.{number, edge_at, edge_count, is_stick}
 use Rattle.step.specs.Walk.{next, prev}
 use Rattle.grid.specs.declared.edge.Edge.{Edge}
-use Rattle.contour.specs.Walk.{Walk, contour, occurrences, by_number, first, firsts, contours}
+use Rattle.contour.specs.Walk.{Walk, contour, occurrences, OnContour, by_number, first, firsts, contours}
 
 abbrev pub same_edge : Edge → Edge → Bool
-same_edge e f = beq e.vertical f.vertical && eqb e.column f.column && eqb e.row f.row
+same_edge e f = beq e.vertical f.vertical && (eqb e.column f.column && eqb e.row f.row)
 
 -- what walks on a layer: from each stick to the next, with inside on the left
 abbrev pub walk_of : Layer → Walk
@@ -23,6 +23,10 @@ walk_of L = record {
   prev = prev L;
   is_one = is_stick L;
 }
+
+-- a stick, if there is one, is on the contour of f
+abbrev pub AtOn : Layer → Edge → Option Edge → Type 0
+AtOn L f at = (e : Edge) → at ≡ Some e → OnContour (walk_of L) f e
 
 -- all sticks, ascending by number
 abbrev pub sticks_by_number : Layer → List Edge

@@ -3,4 +3,4 @@ pub mod Walk
 pub mod Contours
 pub mod Sets
 pub mod Marking
-pub mod Cursors
+pub mod Remaining

@@ -1,12 +1,16 @@
-// Contours: the set of their first sticks in linear time, a cursor from one to the next, and how many there are.
+// Contours: the sticks of one and the first sticks of all to go over, the set of first sticks in linear time, and how many there are.
 #![tactic(auto)]
 
+mod ascent;
 mod count;
-mod cursor;
-mod edge;
+mod lap;
 mod scan;
+mod set;
+mod walk;
 
+pub use ascent::FirstSticks;
 pub use count::{contours_in, count_contours};
-pub use cursor::{Cursor, first_contour, next_contour};
-pub use edge::same_edge;
+pub use lap::ContourWalk;
 pub use scan::{first_sticks, mark_contour};
+pub use set::ContourSet;
+pub use walk::{firsts_of, sticks_of};

@@ -2,48 +2,41 @@
 // one: its bit is cleared. A stick whose bit is clear is first: its contour is walked and the bit of each horizontal stick on it set.
 ghost use Rattle.std.specs.Prelude.{◌≡◌, ◌+◌, ◌-◌, ◌*◌, ◌<◌};
 ghost use mathlib.Core.List.{foldl};
-ghost use Rattle.grid.specs.Layer.{layer_of, stride};
-ghost use Rattle.grid.specs.Questions.{Sound};
+ghost use Rattle.grid.specs.Layer.{stride};
+ghost use Rattle.grid.specs.Plain.{plain};
 ghost use Rattle.contour.specs.Contours.{contour_of};
 ghost use Rattle.bitset.specs.Sets.{Empty};
 ghost use Rattle.contour.specs.Sets.{FirstSet};
 ghost use Rattle.contour.specs.Marking.{mark_edge, Markable, Scanned, ScannedTo, ScannedAt};
 
-use super::edge::same_edge;
-use bitset::{EdgeSet, contains, insert, lowest_bit, remove, widen};
-use grid::{Edge, Size, stride_of};
+use super::walk::sticks_of;
+use bitset::{EdgeSet, contains, insert, lowest_bit, remove};
+use grid::{Edge, Layer, stride_of};
 use mask::stick_byte;
-use step::next_stick;
 
 // Sets the bit of each horizontal stick on the contour that starts at `first`.
-pub fn mark_contour(size: Size, bitmap: &[u8], set: &mut EdgeSet, first: Edge)
-    requires { Markable (layer_of size bitmap.now) set.old first }
-    ensures { set.new ≡ foldl (mark_edge size) set.old (contour_of (layer_of size bitmap.now) first) }
+pub fn mark_contour(layer: Layer, set: &mut EdgeSet, first: Edge)
+    requires { Markable (plain layer) set.old first }
+    ensures { set.new ≡ foldl (mark_edge layer.entry.size) set.old (contour_of (plain layer.entry) first) }
 {
-    let mut e = first;
-    loop {
+    for e in sticks_of(layer, first) {
         if !e.vertical {
-            insert(set, e.row * (size.width - 1) + e.column);
-        }
-        e = next_stick(size, bitmap, e);
-        if same_edge(e, first) {
-            break;
+            insert(set, e.row * (layer.size.width - 1) + e.column);
         }
     }
 }
 
 // One step of the scan, at a horizontal stick.
-fn scan_stick(size: Size, bitmap: &[u8], set: &mut EdgeSet, column: usize, row: usize)
-    requires { ScannedAt (layer_of size bitmap.now) column row set.old }
-    ensures { Scanned (layer_of size bitmap.now) (row * (size.width - 1) + column + 1) set.new }
+fn scan_stick(layer: Layer, set: &mut EdgeSet, column: usize, row: usize)
+    requires { ScannedAt (plain layer) column row set.old }
+    ensures { Scanned (plain layer.entry) (row * (layer.entry.size.width - 1) + column + 1) set.new }
 {
-    let n = row * (size.width - 1) + column;
+    let n = row * (layer.size.width - 1) + column;
     if contains(set, n) {
         remove(set, n);
     } else {
         mark_contour(
-            size,
-            bitmap,
+            layer,
             set,
             Edge {
                 vertical: false,
@@ -55,43 +48,36 @@ fn scan_stick(size: Size, bitmap: &[u8], set: &mut EdgeSet, column: usize, row: 
 }
 
 // The edges of a row in the columns 8 × at to 8 × at + 7: from stick to stick, so a byte without one costs nothing more.
-fn scan_byte(size: Size, bitmap: &[u8], set: &mut EdgeSet, at: usize, row: usize)
-    requires at_bound { at < stride size }
-    requires scanned_to { ScannedTo (layer_of size bitmap.now) row (8 * at) set.old }
-    ensures { ScannedTo (layer_of size bitmap.now) row (8 * (at + 1)) set.new }
+fn scan_byte(layer: Layer, set: &mut EdgeSet, at: usize, row: usize)
+    requires at_bound { at < stride layer.size }
+    requires scanned_to { ScannedTo (plain layer) row (8 * at) set.old }
+    ensures { ScannedTo (plain layer.entry) row (8 * (at + 1)) set.new }
 {
-    let mut left = widen(stick_byte(size, bitmap, false, at, row));
+    let mut left = u64::from(stick_byte(layer, false, at, row));
     let mut column = 8 * at;
     while left != 0 {
         let zeros = lowest_bit(left);
-        scan_stick(size, bitmap, set, column + zeros, row);
+        scan_stick(layer, set, column + zeros, row);
         left = (left >> zeros) / 2;
         column += zeros + 1;
     }
 }
 
-fn scan_row(size: Size, bitmap: &[u8], set: &mut EdgeSet, row: usize)
-    requires { ScannedTo (layer_of size bitmap.now) row 0 set.old }
-    ensures { Scanned (layer_of size bitmap.now) ((row + 1) * (size.width - 1)) set.new }
+fn scan_row(layer: Layer, set: &mut EdgeSet, row: usize)
+    requires { ScannedTo (plain layer) row 0 set.old }
+    ensures { Scanned (plain layer.entry) ((row + 1) * (layer.entry.size.width - 1)) set.new }
 {
-    let bytes = stride_of(size);
-    let mut at = 0;
-    while at < bytes {
-        scan_byte(size, bitmap, set, at, row);
-        at += 1;
+    for at in 0..stride_of(layer.size) {
+        scan_byte(layer, set, at, row);
     }
 }
 
 // Puts the numbers of all first sticks into the set, in time linear in the number of edges.
-pub fn first_sticks(size: Size, bitmap: &[u8], set: &mut EdgeSet)
-    requires sound { Sound (layer_of size bitmap.now) }
+pub fn first_sticks(layer: Layer, set: &mut EdgeSet)
     requires empty { Empty set.old }
-    ensures { FirstSet (layer_of size bitmap.now) set.new }
+    ensures { FirstSet (plain layer.entry) set.new }
 {
-    let height = size.height;
-    let mut row = 0;
-    while row < height {
-        scan_row(size, bitmap, set, row);
-        row += 1;
+    for row in 0..layer.size.height {
+        scan_row(layer, set, row);
     }
 }

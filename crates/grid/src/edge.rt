@@ -5,7 +5,7 @@ ghost use Rattle.grid.specs.Questions.{Sized};
 
 use super::layer::Size;
 
-#[derive(Clone, Copy)]
+#[derive(Clone, Copy, PartialEq, Eq)]
 pub struct Edge {
     pub vertical: bool,
     pub column: usize,

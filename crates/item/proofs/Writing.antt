@@ -1,5 +1,6 @@
 -- Items written out one after the other: what room they need, and what the outputs then hold.
 use mathlib.Core.Path.{◌≡◌, refl, sym, ap, ◌∙◌}
+use mathlib.Core.Logic.{◌⊎◌, inl, inr}
 use mathlib.Core.List.{List, [], ◌∷◌, ◌++◌, flatten, foldl}
 use Prim.Native.Nat.{ℕ, suc, ◌+◌, ◌≤◌}
 use native.Mathlib.Nat.{add-zero, zero-add}
@@ -11,21 +12,17 @@ use lib.Seq.{sets, length-sets}
 use Rattle.item.specs.Items.{byte_of, floats_in, bytes_of, floats_of}
 use Rattle.item.specs.Writing.{Buffers, buffers_of, at_start, write_item, Room}
 use Rattle.item.specs.declared.item.Item.{Item}
-use Rattle.item.specs.declared.item.Written.{Written}
+use Rattle.item.specs.declared.item.Item.TheVariants.{Move, Line}
+use Rattle.item.specs.declared.item.Point.{Point}
 
-pub room_floats : (b : Buffers) (item : Item) → Room b (item ∷ []) → b.at.floats + length (floats_in item) ≤ length b.points
+-- for the two floats of an item that has a point
+pub room-point : {b : Buffers} {item : Item} {p : Point} → Room b (item ∷ []) → (item ≡ Move p) ⊎ (item ≡ Line p)
+    → b.at.floats + 2 ≤ length b.points
 unfolding flatten
-room_floats b item room = omega (arith, room.floats, length-append (floats_in item) [])
-
--- what the outputs are after an item of a known kind, at the places that come then
-pub written : (items : List ℕ) (points : List Float) (at : Written) {item known : Item} → item ≡ known
-    → {points' : List Float} → points' ≡ sets points at.floats (floats_in known)
-    → {f : ℕ} → f ≡ at.floats + length (floats_in known)
-    → buffers_of (set items at.items (byte_of known)) points' (record { items = at.items + 1; floats = f })
-    ≡ write_item (buffers_of items points at) item
-written items points at {known = known} is p f =
-    (λ i. buffers_of (set items at.items (byte_of known)) (p i) (record { items = at.items + 1; floats = f i }))
-    ∙ ap (write_item (buffers_of items points at)) (sym is)
+room-point room is = elim is [
+  | inl e ↦ omega (arith, room.floats, ap (λ (i : Item). length (floats_of (i ∷ []))) e)
+  | inr e ↦ omega (arith, room.floats, ap (λ (i : Item). length (floats_of (i ∷ []))) e)
+]
 
 -- an item written leaves room for the others
 pub room-first : (b : Buffers) (item : Item) (l : List Item) → Room b (item ∷ l) → Room b (item ∷ [])

@@ -3,7 +3,7 @@ ghost use Rattle.std.specs.Prelude.{◌≡◌, [], ◌∷◌, ◌+◌, ◌≤◌
 ghost use Rattle.std.proofs.lemmas.List.Edits.{sets};
 ghost use Rattle.chord.specs.Points.{position};
 ghost use Rattle.chord.specs.Runs.{NearEdge};
-ghost use Rattle.item.specs.Items.{in_samples, point_in_samples, item_to};
+ghost use Rattle.item.specs.Items.{in_samples, point_in_samples, item_to, byte_of};
 ghost use Rattle.item.specs.Writing.{buffers_of, write_item, Room};
 
 use grid::Edge;
@@ -17,8 +17,8 @@ pub struct Point {
 
 #[derive(Clone, Copy)]
 pub enum Item {
-    Move(f64, f64),
-    Line(f64, f64),
+    Move(Point),
+    Line(Point),
     Close,
 }
 
@@ -53,19 +53,18 @@ pub fn point_of(e: Edge, offset: u8) -> Point
 pub fn item_to(due: bool, p: Point) -> Item
     ensures { result ≡ item_to due p }
 {
-    if due {
-        Item::Move(p.x, p.y)
-    } else {
-        Item::Line(p.x, p.y)
-    }
+    if due { Item::Move(p) } else { Item::Line(p) }
 }
 
-fn put_point(points: &mut [f64], at: usize, x: f64, y: f64)
-    requires { at + 2 ≤ length points.old }
-    ensures { points.new ≡ sets points.old at (x ∷ y ∷ []) }
+// The byte that stands for an item.
+fn byte_of(item: Item) -> u8
+    ensures { result ≡ byte_of item }
 {
-    points[at] = x;
-    points[at + 1] = y;
+    match item {
+        Item::Move(_) => 0x4D,
+        Item::Line(_) => 0x6C,
+        Item::Close => 0x5A,
+    }
 }
 
 // Writes an item out: one byte, and the coordinates of its point if it has one.
@@ -73,31 +72,15 @@ pub fn put_item(items: &mut [u8], points: &mut [f64], at: Written, item: Item) -
     requires { Room (buffers_of items.old points.old at) (item ∷ []) }
     ensures { buffers_of items.new points.new result ≡ write_item (buffers_of items.old points.old at) item }
 {
-    let i = at.items;
-    let f = at.floats;
-    match item {
-        Item::Move(x, y) => {
-            items[i] = 0x4D;
-            put_point(points, f, x, y);
-            Written {
-                items: i + 1,
-                floats: f + 2,
-            }
-        }
-        Item::Line(x, y) => {
-            items[i] = 0x6C;
-            put_point(points, f, x, y);
-            Written {
-                items: i + 1,
-                floats: f + 2,
-            }
-        }
-        Item::Close => {
-            items[i] = 0x5A;
-            Written {
-                items: i + 1,
-                floats: f,
-            }
-        }
+    items[at.items] = byte_of(item);
+    let mut floats = at.floats;
+    if let Item::Move(p) | Item::Line(p) = item {
+        points[floats] = p.x;
+        points[floats + 1] = p.y;
+        floats += 2;
+    }
+    Written {
+        items: at.items + 1,
+        floats,
     }
 }

@@ -1,5 +1,5 @@
 -- From the number of contours around the west end of a first stick to its depth, and where the sweep to it may begin.
-use mathlib.Core.Path.{◌≡◌, ap, sym, ◌∙◌, subst}
+use mathlib.Core.Path.{◌≡◌, ap, sym, ◌∙◌}
 use mathlib.Core.Bool.{true}
 use mathlib.Core.List.{List}
 use Prim.Native.Nat.{ℕ, ◌≤◌, ◌<◌}
@@ -7,7 +7,7 @@ use native.Mathlib.Omega.{arith}
 use Rattle.grid.specs.Layer.{Layer}
 use Rattle.step.proofs.Walks.{stick-sample}
 use Rattle.contour.specs.Contours.{walk_of}
-use Rattle.contour.specs.Cursors.{Placed, Opened, Moved}
+use Rattle.contour.specs.Cursors.{Placed}
 use Rattle.contour.specs.declared.cursor.Cursor.{Cursor}
 use Rattle.contour.proofs.First.{first_one}
 use Rattle.contour.proofs.Sticks.{laws}
@@ -16,7 +16,7 @@ use Rattle.winding.specs.Turns.{contours_around, depth}
 use Rattle.winding.proofs.Counts.{depth-around, around-west}
 use Rattle.nesting.specs.Bores.{BoreSet}
 use Rattle.nesting.specs.Sweeps.{Swept}
-use Rattle.nesting.specs.Cursors.{Deep, NestedAt, OpenedNested, MovedNested}
+use Rattle.nesting.specs.Cursors.{NestedAt}
 use Rattle.nesting.specs.declared.cursor.Nested.{Nested}
 
 module _ {L : Layer} {s : List ℕ} (bores : BoreSet L s) {c : Cursor} (placed : Placed L c) (more : c.more ≡ true) where
@@ -30,7 +30,7 @@ module _ {L : Layer} {s : List ℕ} (bores : BoreSet L s) {c : Cursor} (placed :
   depth-there counted = counted ∙ sym (depth-around bores.sound c.stick (here-first placed more))
 
   -- from the row's start, which no contour is around
-  pub from-border : Swept L c.stick.row 0 0 c.stick.column
+  pub from-border : Swept L (record { row = c.stick.row; column = 0; around = 0 }) c.stick.column
   from-border = record {
     row_below = west-within.1;
     reach = omega arith;
@@ -40,7 +40,7 @@ module _ {L : Layer} {s : List ℕ} (bores : BoreSet L s) {c : Cursor} (placed :
 
   -- from the west end of another first stick in the same row
   pub from-other : {n : Nested} → NestedAt L n → n.at.more ≡ true → c.stick.row ≡ n.at.stick.row → n.at.stick.column ≤ c.stick.column
-      → Swept L c.stick.row n.at.stick.column n.depth c.stick.column
+      → Swept L (record { row = c.stick.row; column = n.at.stick.column; around = n.depth }) c.stick.column
   from-other {n} here there row reach = record {
     row_below = west-within.1;
     reach = reach;
@@ -50,18 +50,3 @@ module _ {L : Layer} {s : List ℕ} (bores : BoreSet L s) {c : Cursor} (placed :
         ∙ depth-around bores.sound n.at.stick (here-first here.placed there)
         ∙ ap (contours_around L n.at.stick.column) (sym row);
   }
-
-module _ {L : Layer} {c : Cursor} {n : Nested} (deep : Deep L c n) where
-  nested-there : Placed L c → NestedAt L n
-  nested-there placed =
-      let e = sym deep.same in
-      record {
-        placed = subst (Placed L) e placed;
-        deep = subst (λ (z : Cursor). z.more ≡ true → n.depth ≡ depth L z.stick) e deep.deep;
-      }
-
-  pub opened-nested : Opened L c → OpenedNested L n
-  opened-nested o = record { opened = subst (Opened L) (sym deep.same) o; nested = nested-there o.placed }
-
-  pub moved-nested : {n₀ : Nested} → Moved L n₀.at c → MovedNested L n₀ n
-  moved-nested {n₀} m = record { moved = subst (Moved L n₀.at) (sym deep.same) m; nested = nested-there m.placed }

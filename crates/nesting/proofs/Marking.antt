@@ -171,11 +171,3 @@ module _ {L : Layer} (sound : Sound L) where
   pub bores-markable : {c : Cursor} {s : List ℕ} → BoresMarked L c s → first (walk_of L) c.stick ≡ true → Markable L s c.stick
   bores-markable {c} m is-first =
       record { sound = sound; stick = first_one (walk_of L) (laws L sound) c.stick is-first; sized = m.kept.0 }
-
--- the work on one contour, by a test of the west end of its first stick
-module _ (L : Layer) (s : List ℕ) (f : Edge) {inside : Bool} (tested : inside ≡ is_bore L f) where
-  pub mark-inside : inside ≡ true → foldl (mark_edge L.size) s (contour_of L f) ≡ mark_bore L s f
-  mark-inside i = sym (ap (λ (x : Bool). cond x (foldl (mark_edge L.size) s (contour_of L f)) s) (sym tested ∙ i))
-
-  pub mark-outside : inside ≡ false → s ≡ mark_bore L s f
-  mark-outside i = sym (ap (λ (x : Bool). cond x (foldl (mark_edge L.size) s (contour_of L f)) s) (sym tested ∙ i))

@@ -19,6 +19,7 @@ use Rattle.winding.specs.Turns.{east, contours_around}
 use Rattle.winding.proofs.Counts.{around-same, around-more, around-less, around-few}
 use Rattle.nesting.specs.Bores.{BoreSet}
 use Rattle.nesting.specs.Sweeps.{Swept, SweptAt}
+use Rattle.nesting.specs.declared.sweep.Sweep.{Sweep}
 
 module _ {L : Layer} (sound : Sound L) (r : ℕ) where
   -- no stick for n columns
@@ -43,34 +44,31 @@ other : (a b : Bool) → not a ≡ b → a ≡ not b
 other true b e = ap not e
 other false b e = ap not e
 
-module _ {L : Layer} {s : List ℕ} (bores : BoreSet L s) {r c n : ℕ} (here : SweptAt L r c n) where
-  here-within : WithinGrid L.size (east c r)
-  here-within = stick-within L bores.sound (east c r) here.stick
+module _ {L : Layer} {s : List ℕ} (bores : BoreSet L s) {w : Sweep} (here : SweptAt L w) where
+  pub here-within : WithinGrid L.size (east w.column w.row)
+  here-within = stick-within L bores.sound (east w.column w.row) here.stick
 
-  pub here-narrow : (c + 1 < L.size.width) × (r < L.size.height)
-  here-narrow = (omega (arith, here-within.column_below), omega (arith, here-within.row_below))
-
-  pub here_place : r * (L.size.width - 1) + c < set_bits
+  pub here_place : w.row * (L.size.width - 1) + w.column < set_bits
   here_place =
-      rw (horizontal-number L.size (east c r) refl) at (place-below L bores.sound (east c r) here.stick refl)
+      rw (horizontal-number L.size (east w.column w.row) refl) at (place-below L bores.sound (east w.column w.row) here.stick refl)
 
-  pub here-few : n < 512
-  here-few = omega (arith, here.counted, around-few bores.sound c r (omega (arith, here-narrow)) here-narrow.1)
+  pub here-few : w.around < 512
+  here-few = omega (arith, here.counted, around-few bores.sound w.column w.row (omega (arith, here-within.column_below)) (omega (arith, here-within.row_below)))
 
   -- inside and on a bore, or neither: one more is around; else one less
-  module _ {inside bore : Bool} (is-inside : inside ≡ sample L c r) (is-bore : bore ≡ has s (r * (L.size.width - 1) + c)) where
-    pub crossed-more : beq inside bore ≡ true → n + 1 ≡ contours_around L (c + 1) r
+  module _ {inside bore : Bool} (is-inside : inside ≡ sample L w.column w.row) (is-bore : bore ≡ has s (w.row * (L.size.width - 1) + w.column)) where
+    pub crossed-more : beq inside bore ≡ true → w.around + 1 ≡ contours_around L (w.column + 1) w.row
     crossed-more e =
-        let one : contours_around L (c + 1) r ≡ contours_around L c r + 1 =
-        around-more bores.sound c r here.stick
-        (sym is-inside ∙ beq-yes inside bore e ∙ is-bore ∙ bores.says c r here.stick) in
+        let one : contours_around L (w.column + 1) w.row ≡ contours_around L w.column w.row + 1 =
+        around-more bores.sound w.column w.row here.stick
+        (sym is-inside ∙ beq-yes inside bore e ∙ is-bore ∙ bores.says w.column w.row here.stick) in
         omega (arith, here.counted)
 
-    pub crossed-less : beq inside bore ≡ false → n ≡ contours_around L (c + 1) r + 1
+    pub crossed-less : beq inside bore ≡ false → w.around ≡ contours_around L (w.column + 1) w.row + 1
     crossed-less e =
-        let one : contours_around L c r ≡ contours_around L (c + 1) r + 1 =
-        around-less bores.sound c r here.stick
-        (sym is-inside ∙ other inside _ (beq-no inside bore e ∙ is-bore ∙ bores.says c r here.stick)) in
+        let one : contours_around L w.column w.row ≡ contours_around L (w.column + 1) w.row + 1 =
+        around-less bores.sound w.column w.row here.stick
+        (sym is-inside ∙ other inside _ (beq-no inside bore e ∙ is-bore ∙ bores.says w.column w.row here.stick)) in
         omega (arith, here.counted)
 
 -- Along the sticks of byte `at`: x has the bits of the columns from c on
@@ -84,28 +82,29 @@ pub record ByteSwept (L : Layer) (at r end x c n : ℕ) : Type 0 where
 byte_of : (c : ℕ) → 8 * (c / 8) + c % 8 ≡ c
 byte_of c = omega (arith, div-add-mod' c 8)
 
-module _ {L : Layer} {r end : ℕ} where
+module _ {L : Layer} {end : ℕ} where
   -- the byte is one of the row
-  pub byte-within : {c n : ℕ} → Sized L.size → Swept L r c n end → c / 8 < stride L.size
-  byte-within {c} sized swept = omega (arith, swept.reach, swept.within, sized)
+  pub byte-within : {w : Sweep} → Sized L.size → Swept L w end → w.column / 8 < stride L.size
+  byte-within sized swept = omega (arith, swept.reach, swept.within, sized)
 
-  pub byte-start : {c n x y : ℕ} → Swept L r c n end → StickBits L false (c / 8) r x → (y ≡ x) × (y < 256)
-      → ByteSwept L (c / 8) r end (y / 2 ^ (c % 8)) c n
-  byte-start {c} {n} {x} {y} swept bits wide =
+  pub byte-start : {w : Sweep} {x y : ℕ} → Swept L w end → StickBits L false (w.column / 8) w.row x → y ≡ x → y < 256
+      → ByteSwept L (w.column / 8) w.row end (y / 2 ^ (w.column % 8)) w.column w.around
+  byte-start {w} {x} {y} swept bits same wide =
       record {
         left =
-            subst (λ (k : ℕ). Left L false (c / 8) r k (y / 2 ^ (c % 8))) (byte_of c)
-            (rw wide.0 (left-shift L false (c / 8) r (8 * (c / 8)) x (left-start L false (c / 8) r x bits (omega (arith, wide))) (c % 8)));
-        in_byte = omega (arith, byte_of c);
+            subst (λ (k : ℕ). Left L false (w.column / 8) w.row k (y / 2 ^ (w.column % 8))) (byte_of w.column)
+            (rw same (left-shift L false (w.column / 8) w.row (8 * (w.column / 8)) x (left-start L false (w.column / 8) w.row x bits (omega arith)) (w.column % 8)));
+        in_byte = omega (arith, byte_of w.column);
         reach = swept.reach;
         counted = swept.counted;
       }
 
-  module _ {at : ℕ} {x c n : ℕ} (b : ByteSwept L at r end x c n) {z : ℕ} (lowest : (z ≡ least (bit x) 64) × (z < 64)) where
+module _ {L : Layer} {r end : ℕ} where
+  module _ {at : ℕ} {x c n : ℕ} (b : ByteSwept L at r end x c n) {z : ℕ} (lowest : z ≡ least (bit x) 64) (low : z < 64) where
     found : (c + z < 8 * at + 8)
         × (is_stick L (east (c + z) r) ≡ true)
         × ((k : ℕ) → c ≤ k → k < c + z → is_stick L (east k r) ≡ false)
-    found = left-found L false at r c x b.left z lowest.0 lowest.1
+    found = left-found L false at r c x b.left z lowest low
 
     pub byte-room : c + z < 8 * at + 8
     byte-room = found.0
@@ -116,7 +115,7 @@ module _ {L : Layer} {r end : ℕ} where
 
     module _ (sound : Sound L) where
       -- the lowest bit is the next stick: if it is not past the end the sweep stands at it,
-      pub byte-stick : SweptAt L r (c + z) n
+      pub byte-stick : SweptAt L (record { row = r; column = c + z; around = n })
       byte-stick =
           record { stick = found.1; counted = b.counted ∙ sym (none_between sound r (omega arith) found.2) }
 
@@ -129,14 +128,14 @@ module _ {L : Layer} {r end : ℕ} where
           ∙ ap (λ (k : ℕ). contours_around L k r) e
 
     pub byte-turn : {m : ℕ} → c + z < end → m ≡ contours_around L (c + z + 1) r
-        → ByteSwept L at r end (x / 2 ^ z / 2) (c + (z + 1)) m
+        → ByteSwept L at r end (x / 2 ^ z / 2) (c + z + 1) m
     byte-turn less counted =
-        let e : c + z + 1 ≡ c + (z + 1) = omega arith in
+        let e : c + (z + 1) ≡ c + z + 1 = omega arith in
         record {
-          left = left-next L false at r c x b.left z;
+          left = subst (λ (k : ℕ). Left L false at r k (x / 2 ^ z / 2)) e (left-next L false at r c x b.left z);
           in_byte = omega (arith, byte-room);
           reach = omega arith;
-          counted = counted ∙ ap (λ (k : ℕ). contours_around L k r) e;
+          counted = counted;
         }
 
   pub byte_last : {at x c n : ℕ} → ByteSwept L at r end x c n → Sound L → x ≡ 0 → n ≡ contours_around L (min (8 * at + 8) end) r
@@ -146,17 +145,18 @@ module _ {L : Layer} {r end : ℕ} where
 
 -- Along the row, from byte to byte
 
-module _ {L : Layer} {r c n end : ℕ} (swept : Swept L r c n end) where
-  pub row-turn : {m d : ℕ} → c < end → m ≡ contours_around L (min (8 * (c / 8) + 8) end) r → d ≡ min (8 * (c / 8) + 8) end → Swept L r d m end
-  row-turn {m} less counted is =
+module _ {L : Layer} {w : Sweep} {end : ℕ} (swept : Swept L w end) where
+  pub row-turn : {m d : ℕ} → w.column < end → m ≡ contours_around L (min (8 * (w.column / 8) + 8) end) w.row
+      → d ≡ min (8 * (w.column / 8) + 8) end → Swept L (record { row = w.row; column = d; around = m }) end
+  row-turn less counted is =
       record {
         row_below = swept.row_below;
         reach = omega arith;
         within = swept.within;
-        counted = counted ∙ sym (ap (λ (k : ℕ). contours_around L k r) is);
+        counted = counted ∙ sym (ap (λ (k : ℕ). contours_around L k w.row) is);
       }
 
-  pub row_last : end ≤ c → n ≡ contours_around L end r
+  pub row_last : end ≤ w.column → w.around ≡ contours_around L end w.row
   row_last past =
-      let e : c ≡ end = omega (arith, swept.reach) in
-      swept.counted ∙ ap (λ (k : ℕ). contours_around L k r) e
+      let e : w.column ≡ end = omega (arith, swept.reach) in
+      swept.counted ∙ ap (λ (k : ℕ). contours_around L k w.row) e

@@ -8,7 +8,7 @@ ghost use Rattle.nesting.specs.Bores.{BoreSet};
 ghost use Rattle.nesting.specs.Sweeps.{Swept};
 ghost use Rattle.nesting.specs.Cursors.{Deep, NestedAt, OpenedNested, MovedNested};
 
-use super::sweep::around_at;
+use super::sweep::{Sweep, around_at};
 use bitset::EdgeSet;
 use contour::{Cursor, first_contour, next_contour};
 use grid::Size;
@@ -20,34 +20,33 @@ pub struct Nested {
     pub depth: usize,
 }
 
-// The cursor with the depth of its contour, by a sweep along the row of its first stick from `column` on, with `around` contours around that
-// sample: the depth is how many are around the west end of the stick.
-fn deepen(
-    size: Size,
-    bitmap: &[u8],
-    bores: &EdgeSet,
-    at: Cursor,
-    column: usize,
-    around: usize,
-) -> Nested
+// The cursor with the depth of its contour, by a sweep along the row of its first stick: the depth is how many are around the west end of the stick.
+fn deepen(size: Size, bitmap: &[u8], bores: &EdgeSet, at: Cursor, from: Sweep) -> Nested
     requires bore_set { BoreSet (layer_of size bitmap.now) bores.now }
     requires placed { Placed (layer_of size bitmap.now) at }
-    requires swept { at.more ≡ true → Swept (layer_of size bitmap.now) at.stick.row column around at.stick.column }
+    requires row { from.row ≡ at.stick.row }
+    requires swept { at.more ≡ true → Swept (layer_of size bitmap.now) from at.stick.column }
     ensures { Deep (layer_of size bitmap.now) at result }
 {
     if !at.more {
         return Nested { at, depth: 0 };
     }
-    let depth = around_at(
-        size,
-        bitmap,
-        bores,
-        at.stick.row,
-        column,
-        around,
-        at.stick.column,
-    );
+    let depth = around_at(size, bitmap, bores, from, at.stick.column);
     Nested { at, depth }
+}
+
+// The cursor with the depth of its contour, by a sweep from the border, which no contour is around.
+fn deepen_from_border(size: Size, bitmap: &[u8], bores: &EdgeSet, at: Cursor) -> Nested
+    requires bore_set { BoreSet (layer_of size bitmap.now) bores.now }
+    requires placed { Placed (layer_of size bitmap.now) at }
+    ensures { Deep (layer_of size bitmap.now) at result }
+{
+    let border = Sweep {
+        row: at.stick.row,
+        column: 0,
+        around: 0,
+    };
+    deepen(size, bitmap, bores, at, border)
 }
 
 // The cursor at the first contour.
@@ -56,18 +55,10 @@ pub fn first_nested(size: Size, bitmap: &[u8], firsts: &EdgeSet, bores: &EdgeSet
     requires bore_set { BoreSet (layer_of size bitmap.now) bores.now }
     ensures { OpenedNested (layer_of size bitmap.now) result }
 {
-    deepen(
-        size,
-        bitmap,
-        bores,
-        first_contour(size, bitmap, firsts),
-        0,
-        0,
-    )
+    deepen_from_border(size, bitmap, bores, first_contour(size, bitmap, firsts))
 }
 
-// The cursor at the next contour. In the same row the sweep goes on from where it stands, in another it begins at the border, which no contour
-// is around.
+// The cursor at the next contour. In the same row the sweep goes on from where it stands, in another it begins at the border.
 pub fn next_nested(
     size: Size,
     bitmap: &[u8],
@@ -83,7 +74,12 @@ pub fn next_nested(
 {
     let next = next_contour(size, bitmap, firsts, here.at);
     if next.stick.row == here.at.stick.row && here.at.stick.column <= next.stick.column {
-        return deepen(size, bitmap, bores, next, here.at.stick.column, here.depth);
+        let from = Sweep {
+            row: next.stick.row,
+            column: here.at.stick.column,
+            around: here.depth,
+        };
+        return deepen(size, bitmap, bores, next, from);
     }
-    deepen(size, bitmap, bores, next, 0, 0)
+    deepen_from_border(size, bitmap, bores, next)
 }

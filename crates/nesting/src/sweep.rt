@@ -6,90 +6,66 @@ ghost use Rattle.winding.specs.Turns.{contours_around};
 ghost use Rattle.nesting.specs.Bores.{BoreSet};
 ghost use Rattle.nesting.specs.Sweeps.{Swept, SweptAt};
 
-use bitset::{EdgeSet, contains, lowest_bit, widen};
+use bitset::{EdgeSet, contains, lowest_bit};
 use grid::{Size, is_inside};
 use mask::stick_byte;
 
-// How many contours are around the sample east of a stick, of those around the sample west of it.
-fn crossed(
-    size: Size,
-    bitmap: &[u8],
-    bores: &EdgeSet,
-    row: usize,
-    column: usize,
-    around: usize,
-) -> usize
+// Where a sweep stands, and how many contours are around the sample there.
+#[derive(Clone, Copy)]
+pub struct Sweep {
+    pub row: usize,
+    pub column: usize,
+    pub around: usize,
+}
+
+// How many contours are around the sample east of the stick at which the sweep stands.
+fn crossed(size: Size, bitmap: &[u8], bores: &EdgeSet, at: Sweep) -> usize
     requires bore_set { BoreSet (layer_of size bitmap.now) bores.now }
-    requires swept_at { SweptAt (layer_of size bitmap.now) row column around }
-    ensures { result ≡ contours_around (layer_of size bitmap.now) (column + 1) row }
+    requires swept_at { SweptAt (layer_of size bitmap.now) at }
+    ensures { result ≡ contours_around (layer_of size bitmap.now) (at.column + 1) at.row }
 {
-    let bore = contains(bores, row * (size.width - 1) + column);
-    if is_inside(size, bitmap, column, row) == bore {
-        around + 1
+    let bore = contains(bores, at.row * (size.width - 1) + at.column);
+    if is_inside(size, bitmap, at.column, at.row) == bore {
+        at.around + 1
     } else {
-        around - 1
+        at.around - 1
     }
 }
 
-// The end of the byte that holds a column, at most `end`.
-fn byte_end(column: usize, end: usize) -> usize
-    requires column_lt_end { column < end }
-    requires end_bound { end < 1024 }
-    ensures { result ≡ min (8 * (column / 8) + 8) end }
-{
-    let byte = 8 * (column / 8) + 8;
-    if byte < end { byte } else { end }
-}
-
-// How many contours are around the sample at `byte_end`: from stick to stick, so a byte without one costs nothing more.
-fn over_byte(
-    size: Size,
-    bitmap: &[u8],
-    bores: &EdgeSet,
-    row: usize,
-    column: usize,
-    around: usize,
-    end: usize,
-) -> usize
+// How many contours are around the sample at the end of the byte that holds the sweep's column, or at `end` if that comes first: from stick to
+// stick, so a byte without one costs nothing more.
+fn over_byte(size: Size, bitmap: &[u8], bores: &EdgeSet, from: Sweep, end: usize) -> usize
     requires bore_set { BoreSet (layer_of size bitmap.now) bores.now }
-    requires swept { Swept (layer_of size bitmap.now) row column around end }
-    requires column_lt_end { column < end }
-    ensures { result ≡ contours_around (layer_of size bitmap.now) (min (8 * (column / 8) + 8) end) row }
+    requires swept { Swept (layer_of size bitmap.now) from end }
+    requires column_lt_end { from.column < end }
+    ensures { result ≡ contours_around (layer_of size bitmap.now) (min (8 * (from.column / 8) + 8) end) from.row }
 {
-    let mut left = widen(stick_byte(size, bitmap, false, column / 8, row)) >> (column % 8);
-    let mut at = column;
-    let mut count = around;
+    let byte = stick_byte(size, bitmap, false, from.column / 8, from.row);
+    let mut left = u64::from(byte) >> (from.column % 8);
+    let mut at = from;
     while left != 0 {
         let zeros = lowest_bit(left);
-        if at + zeros >= end {
-            return count;
+        if at.column + zeros >= end {
+            return at.around;
         }
-        count = crossed(size, bitmap, bores, row, at + zeros, count);
+        at.column += zeros;
+        at.around = crossed(size, bitmap, bores, at);
+        at.column += 1;
         left = (left >> zeros) / 2;
-        at += zeros + 1;
     }
-    count
+    at.around
 }
 
-// How many contours are around the sample at column `end` of a row, of those around the sample at `column`.
-pub fn around_at(
-    size: Size,
-    bitmap: &[u8],
-    bores: &EdgeSet,
-    row: usize,
-    column: usize,
-    around: usize,
-    end: usize,
-) -> usize
+// How many contours are around the sample at column `end` of the sweep's row.
+pub fn around_at(size: Size, bitmap: &[u8], bores: &EdgeSet, from: Sweep, end: usize) -> usize
     requires bore_set { BoreSet (layer_of size bitmap.now) bores.now }
-    requires swept { Swept (layer_of size bitmap.now) row column around end }
-    ensures { result ≡ contours_around (layer_of size bitmap.now) end row }
+    requires swept { Swept (layer_of size bitmap.now) from end }
+    ensures { result ≡ contours_around (layer_of size bitmap.now) end from.row }
 {
-    let mut at = column;
-    let mut count = around;
-    while at < end {
-        count = over_byte(size, bitmap, bores, row, at, count, end);
-        at = byte_end(at, end);
+    let mut at = from;
+    while at.column < end {
+        at.around = over_byte(size, bitmap, bores, at, end);
+        at.column = (8 * (at.column / 8) + 8).min(end);
     }
-    count
+    at.around
 }

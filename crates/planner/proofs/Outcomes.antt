@@ -63,6 +63,10 @@ pub record Tallies (L : Layer) (t : List ℕ) (kept many : ℕ) : Type 0 where
   pub many_is : many ≡ contour_count L
   pub few : many ≤ set_bits
 
+pub tallied : {L : Layer} {t : List ℕ} {kept many : ℕ} → Accepted L t → kept ≡ count (kept_entry t) (length t) → many ≡ contour_count L
+    → many ≤ set_bits → Tallies L t kept many
+tallied accepted kept many few = record { accepted = accepted; kept_is = kept; many_is = many; few = few }
+
 module _ {L : Layer} {t : List ℕ} {kept many : ℕ} (c : Tallies L t kept many) where
   pub tallies-fit : kept + many ≤ 3142656
   tallies-fit =

@@ -13,19 +13,19 @@ use lib.Seq.{sets}
 use Rattle.arith.specs.Ranges.{least}
 use Rattle.arith.proofs.Booleans.{both-sides}
 use Rattle.arith.proofs.Bounds.{nat_abs-add}
-use Rattle.grid.specs.Layer.{Layer, bit, stride}
+use Rattle.grid.specs.Layer.{Layer, bit}
 use Rattle.grid.specs.Edges.{number, is_stick, stick_in, edge_at, edge_columns, edge_rows, edge_count, kind_start, row_start, StickBits}
 use Rattle.grid.specs.declared.layer.Size.{Size}
 use Rattle.grid.specs.declared.edge.Edge.{Edge}
 use Rattle.grid.proofs.Numbers.{number-below, edge_at-number, edge_at-row, columns-narrow, edges-small, edges-split}
-use Rattle.grid.proofs.Samples.{last_byte}
 use Rattle.step.proofs.Walks.{stick-within}
 use Rattle.contour.specs.Walk.{numbered}
 use Rattle.contour.specs.Contours.{walk_of, sticks_by_number}
 use Rattle.contour.proofs.Numbered.{from-here, from-skip, from_end}
 use Rattle.contour.proofs.Bytes.{Left, left-start, left-found, left-next, left-done}
 use Rattle.contour.proofs.Sticks.{stick-in}
-use Rattle.table.specs.Vertices.{kept_at}
+use Rattle.table.specs.Vertices.{is_kept, entry_at, kept_at}
+use Rattle.table.specs.declared.entry.Entry.{Entry}
 use Rattle.table.specs.Lent.{LentAt}
 use Rattle.drawn.specs.Drawn.{drawn_from, drawn_among}
 use Rattle.held.specs.Questions.{Accepted}
@@ -36,6 +36,11 @@ use Rattle.shoelace.specs.Running.{State, with_stick, sticks_from, result_from, 
 -- a stick that is measured has an entry
 pub lent_at : {L : Layer} {t : List ℕ} {e : Edge} → HeldStick L t e → LentAt L t e
 lent_at given = record { sound = given.accepted.sound; exact = given.accepted.exact; stick = given.stick }
+
+-- whether the vertex is kept, as the code reads it from the entry
+pub kept-is : (L : Layer) (t : List ℕ) (e : Edge) {x : Entry} {kept : Bool} → x ≡ entry_at L t e → kept ≡ is_kept x → kept_at L t e ≡ kept
+unfolding kept_at
+kept-is L t e entry answer = sym (answer ∙ ap is_kept entry)
 
 -- ---- the state
 
@@ -71,6 +76,16 @@ module _ {L : Layer} {t : List ℕ} {e : Edge} {s : State} (at : AtStick L t e s
 
   pub stick-number : here < edge_count L.size
   stick-number = number-below L.size at.below.accepted.sound.whole.sized e (stick-in L e at.stick)
+
+  -- what is asked of it, and of the sum and the place so far
+  pub stick-held : HeldStick L t e
+  stick-held = record { accepted = at.below.accepted; stick = at.stick }
+
+  pub stick-few : s.running.edges ≤ 2095104
+  stick-few = below-few at.below (omega (arith, stick-number))
+
+  pub stick-small : nat_abs s.running.sum ≤ 2 ^ 58
+  stick-small = below-small at.below (omega (arith, stick-number))
 
   -- it is the next of those that are left
   next-left : sticks_from L here ≡ e ∷ sticks_from L (here + 1)
@@ -177,13 +192,13 @@ pub record ByteRun (L : Layer) (t : List ℕ) (v : Bool) (r at p : ℕ) (s : Sta
   pub onward : Onward L t p s (spot L.size v r c) u
 
 module _ {L : Layer} {t : List ℕ} {v : Bool} {r at : ℕ} where
-  pub byte-start : {x y : ℕ} {s : State} → InRow L t v r (8 * at) s → StickBits L v at r x → (y ≡ x) × (y < 256)
+  pub byte-start : {x y : ℕ} {s : State} → InRow L t v r (8 * at) s → StickBits L v at r x → y ≡ x → y < 256
       → ByteRun L t v r at (spot L.size v r (8 * at)) s y (8 * at) s
-  byte-start {x} start bits wide =
+  byte-start {x} start bits y-is wide =
       record {
         row = start.row;
         within = omega arith;
-        left = rw wide.0 (left-start L v at r x bits (omega (arith, wide)));
+        left = rw y-is (left-start L v at r x bits (omega arith));
         onward = stay start.below;
       }
 
@@ -191,12 +206,12 @@ module _ {L : Layer} {t : List ℕ} {v : Bool} {r at : ℕ} where
     in_row : InRow L t v r c u
     in_row = record { row = run.row; below = run.onward.below }
 
-    module _ {z : ℕ} (lowest : (z ≡ least (bit x) 64) × (z < 64)) where
+    module _ {z : ℕ} (lowest : z ≡ least (bit x) 64) (small : z < 64) where
       abbrev pub next_stick : Edge
       next_stick = record { vertical = v; column = c + z; row = r }
 
       found : (c + z < 8 * at + 8) × (stick_in L v r (c + z) ≡ true) × ((k : ℕ) → c ≤ k → k < c + z → stick_in L v r k ≡ false)
-      found = left-found L v at r c x run.left z lowest.0 lowest.1
+      found = left-found L v at r c x run.left z lowest small
 
       column : c + z < edge_columns L.size v
       column = (stick-within L run.onward.below.accepted.sound next_stick found.1).column_below
@@ -231,44 +246,6 @@ module _ {L : Layer} {t : List ℕ} {v : Bool} {r at : ℕ} where
         let end : 8 * at + 8 ≡ 8 * (at + 1) = omega arith in
         subst (λ (d : ℕ). Onward L t p s (spot L.size v r d) u) end
         (then run.onward (skip in_row (8 * at + 8) run.within (left-done L v at r c x run.left none)))
-
--- A row, by its bytes: `at` of them are done
-pub record RowRun (L : Layer) (t : List ℕ) (v : Bool) (r : ℕ) (s : State) (at : ℕ) (u : State) : Type 0 where
-  pub row : r < edge_rows L.size v
-  pub onward : Onward L t (spot L.size v r 0) s (spot L.size v r (8 * at)) u
-
-module _ {L : Layer} {t : List ℕ} {v : Bool} {r : ℕ} where
-  pub row-start : {s : State} → InRow L t v r 0 s → RowRun L t v r s 0 s
-  row-start start = record { row = start.row; onward = stay start.below }
-
-  module _ {s u : State} {at : ℕ} (run : RowRun L t v r s at u) where
-    pub row_here : InRow L t v r (8 * at) u
-    row_here = record { row = run.row; below = run.onward.below }
-
-    pub row-turn : {u' : State} → Onward L t (spot L.size v r (8 * at)) u (spot L.size v r (8 * (at + 1))) u' → RowRun L t v r s (at + 1) u'
-    row-turn byte = record { row = run.row; onward = then run.onward byte }
-
-    pub row-end : stride L.size ≤ at → Onward L t (spot L.size v r 0) s (spot L.size v (r + 1) 0) u
-    row-end all = subst (λ (q : ℕ). Onward L t (spot L.size v r 0) s q u) (end v) run.onward
-      where
-        end : (w : Bool) → spot L.size w r (8 * at) ≡ spot L.size w (r + 1) 0
-        end true = omega (arith, last_byte L.size run.onward.below.accepted.sound.whole.sized)
-        end false = omega (arith, last_byte L.size run.onward.below.accepted.sound.whole.sized)
-
--- A kind, by its rows: r of them are done
-pub record KindRun (L : Layer) (t : List ℕ) (v : Bool) (s : State) (r : ℕ) (u : State) : Type 0 where
-  pub rows : r ≤ edge_rows L.size v
-  pub onward : Onward L t (spot L.size v 0 0) s (spot L.size v r 0) u
-
-module _ {L : Layer} {t : List ℕ} {v : Bool} {s u : State} {r : ℕ} (run : KindRun L t v s r u) where
-  pub kind-here : r < edge_rows L.size v → InRow L t v r 0 u
-  kind-here below = record { row = below; below = run.onward.below }
-
-  pub kind-turn : {u' : State} → r < edge_rows L.size v → Onward L t (spot L.size v r 0) u (spot L.size v (r + 1) 0) u' → KindRun L t v s (r + 1) u'
-  kind-turn below row = record { rows = omega arith; onward = then run.onward row }
-
-  pub kind-end : edge_rows L.size v ≤ r → Onward L t (spot L.size v 0 0) s (spot L.size v (edge_rows L.size v) 0) u
-  kind-end all = let last : r ≡ edge_rows L.size v = omega (arith, run.rows) in rw last at run.onward
 
 -- ---- all sticks
 

@@ -7,7 +7,7 @@ ghost use Rattle.shoelace.specs.Sums.{drawn_count};
 ghost use Rattle.shoelace.specs.Running.{Below, Onward, spot, InRow, AtStick, AllSummed};
 
 use super::adds::edge_adds;
-use bitset::{lowest_bit, widen};
+use bitset::lowest_bit;
 use grid::{Edge, Size, edge_rows, stride_of};
 use mask::stick_byte;
 use table::{entry_at, is_kept};
@@ -26,21 +26,15 @@ fn put_sum(
     table: &[u16],
     e: Edge,
     sums: &mut [i64],
-    done: Running,
-) -> Running
-    requires { AtStick (layer_of size bitmap.now) table.now e (record { output = sums.old; running = done }) }
-    ensures { Onward (layer_of size bitmap.now) table.now (number size e) (record { output = sums.old; running = done }) (number size e + 1) (record { output = sums.new; running = result }) }
+    running: &mut Running,
+)
+    requires { AtStick (layer_of size bitmap.now) table.now e (record { output = sums.old; running = running.old }) }
+    ensures { Onward (layer_of size bitmap.now) table.now (number size e) (record { output = sums.old; running = running.old }) (number size e + 1) (record { output = sums.new; running = running.new }) }
 {
-    if !is_kept(entry_at(size, table, e)) {
-        return done;
-    }
-    let before = done.sum;
-    let sum = before + edge_adds(size, bitmap, table, e);
-    let place = done.edges;
-    sums[place] = sum;
-    Running {
-        sum,
-        edges: place + 1,
+    if is_kept(entry_at(size, table, e)) {
+        running.sum += edge_adds(size, bitmap, table, e);
+        sums[running.edges] = running.sum;
+        running.edges += 1;
     }
 }
 
@@ -53,15 +47,14 @@ fn sums_in_byte(
     row: usize,
     at: usize,
     sums: &mut [i64],
-    done: Running,
-) -> Running
+    running: &mut Running,
+)
     requires at_bound { at < stride size }
-    requires in_row { InRow (layer_of size bitmap.now) table.now vertical row (8 * at) (record { output = sums.old; running = done }) }
-    ensures { Onward (layer_of size bitmap.now) table.now (spot size vertical row (8 * at)) (record { output = sums.old; running = done }) (spot size vertical row (8 * (at + 1))) (record { output = sums.new; running = result }) }
+    requires in_row { InRow (layer_of size bitmap.now) table.now vertical row (8 * at) (record { output = sums.old; running = running.old }) }
+    ensures { Onward (layer_of size bitmap.now) table.now (spot size vertical row (8 * at)) (record { output = sums.old; running = running.old }) (spot size vertical row (8 * (at + 1))) (record { output = sums.new; running = running.new }) }
 {
-    let mut left = widen(stick_byte(size, bitmap, vertical, at, row));
+    let mut left = u64::from(stick_byte(size, bitmap, vertical, at, row));
     let mut column = 8 * at;
-    let mut running = done;
     while left != 0 {
         let zeros = lowest_bit(left);
         let e = Edge {
@@ -69,11 +62,10 @@ fn sums_in_byte(
             column: column + zeros,
             row,
         };
-        running = put_sum(size, bitmap, table, e, sums, running);
+        put_sum(size, bitmap, table, e, sums, running);
         left = (left >> zeros) / 2;
         column += zeros + 1;
     }
-    running
 }
 
 fn sums_in_row(
@@ -83,19 +75,14 @@ fn sums_in_row(
     vertical: bool,
     row: usize,
     sums: &mut [i64],
-    done: Running,
-) -> Running
-    requires { InRow (layer_of size bitmap.now) table.now vertical row 0 (record { output = sums.old; running = done }) }
-    ensures { Onward (layer_of size bitmap.now) table.now (spot size vertical row 0) (record { output = sums.old; running = done }) (spot size vertical (row + 1) 0) (record { output = sums.new; running = result }) }
+    running: &mut Running,
+)
+    requires { InRow (layer_of size bitmap.now) table.now vertical row 0 (record { output = sums.old; running = running.old }) }
+    ensures { Onward (layer_of size bitmap.now) table.now (spot size vertical row 0) (record { output = sums.old; running = running.old }) (spot size vertical (row + 1) 0) (record { output = sums.new; running = running.new }) }
 {
-    let bytes = stride_of(size);
-    let mut running = done;
-    let mut at = 0;
-    while at < bytes {
-        running = sums_in_byte(size, bitmap, table, vertical, row, at, sums, running);
-        at += 1;
+    for at in 0..stride_of(size) {
+        sums_in_byte(size, bitmap, table, vertical, row, at, sums, running);
     }
-    running
 }
 
 fn sums_of_kind(
@@ -104,19 +91,14 @@ fn sums_of_kind(
     table: &[u16],
     vertical: bool,
     sums: &mut [i64],
-    done: Running,
-) -> Running
-    requires { Below (layer_of size bitmap.now) table.now (spot size vertical 0 0) (record { output = sums.old; running = done }) }
-    ensures { Onward (layer_of size bitmap.now) table.now (spot size vertical 0 0) (record { output = sums.old; running = done }) (spot size vertical (edge_rows size vertical) 0) (record { output = sums.new; running = result }) }
+    running: &mut Running,
+)
+    requires { Below (layer_of size bitmap.now) table.now (spot size vertical 0 0) (record { output = sums.old; running = running.old }) }
+    ensures { Onward (layer_of size bitmap.now) table.now (spot size vertical 0 0) (record { output = sums.old; running = running.old }) (spot size vertical (edge_rows size vertical) 0) (record { output = sums.new; running = running.new }) }
 {
-    let rows = edge_rows(size, vertical);
-    let mut running = done;
-    let mut row = 0;
-    while row < rows {
-        running = sums_in_row(size, bitmap, table, vertical, row, sums, running);
-        row += 1;
+    for row in 0..edge_rows(size, vertical) {
+        sums_in_row(size, bitmap, table, vertical, row, sums, running);
     }
-    running
 }
 
 // Stores the sum after each drawn edge, and gives the last one, 0 if there is none: horizontal edges have the lower numbers.
@@ -125,8 +107,8 @@ pub fn put_sums(size: Size, bitmap: &[u8], table: &[u16], sums: &mut [i64]) -> i
     requires room { drawn_count (layer_of size bitmap.now) table.now ≤ length sums.old }
     ensures { AllSummed (layer_of size bitmap.now) table.now sums.old sums.new result }
 {
-    let none = Running { sum: 0, edges: 0 };
-    let horizontal = sums_of_kind(size, bitmap, table, false, sums, none);
-    let all = sums_of_kind(size, bitmap, table, true, sums, horizontal);
-    all.sum
+    let mut running = Running { sum: 0, edges: 0 };
+    sums_of_kind(size, bitmap, table, false, sums, &mut running);
+    sums_of_kind(size, bitmap, table, true, sums, &mut running);
+    running.sum
 }

@@ -1,115 +1,87 @@
--- The entries of a traced table, written one by one in a run of eight, run by run in a row, row by row in a kind, and the two kinds. Each loop
--- has its record of what is written; a turn of it writes the entries that come next.
-use mathlib.Core.Path.{◌≡◌, ap, sym, ◌∙◌}
+-- The entries of a traced table, written one by one in a run of eight, run by run in a row, row by row in a kind, and the two kinds. A turn of
+-- each loop writes the entries that come next.
+use mathlib.Core.Path.{◌≡◌, refl, ap, sym, ◌∙◌}
 use mathlib.Core.Bool.{Bool, true, false}
 use mathlib.Core.List.{List}
-use Prim.Native.Nat.{ℕ, ◌+◌, ◌-◌, ◌*◌, ◌≤◌, ◌<◌}
-use native.Mathlib.Nat.{add_assoc, zero-add, zero-mul}
+use Prim.Native.Nat.{ℕ, zero, suc, ◌+◌, ◌-◌, ◌*◌, ◌<◌, ◌≤◌}
+use native.Mathlib.Nat.{add_assoc, zero-add}
 use native.Mathlib.Omega.{arith}
-use lib.ListN.{length, set}
+use lib.ListN.{length, get_or}
+use Rattle.std.proofs.lemmas.List.{get_or-set_other, ext_get_or, places}
+use borrow.Rule.Slice.PartMut.{put_mid, mid_of}
+use borrow.Author.Rules.{rules}
+use Rattle.std.proofs.lemmas.Grind.{common_steps}
+use mathlib.Core.Logic.{◌⊎◌, inl, inr}
+use native.Mathlib.Decide.{dec_lt}
 use Rattle.arith.specs.Ranges.{fill}
-use Rattle.arith.proofs.Ranges.{length-fill, fill_none, fill_more, fill-add, fill-same}
+use Rattle.arith.proofs.Ranges.{length-fill, fill-at, fill-add}
 use Rattle.grid.specs.Layer.{Layer, bit}
 use Rattle.grid.specs.Edges.{edge_columns, edge_rows, edge_count, kind_start, row_start, edge_at, is_stick}
 use Rattle.grid.proofs.Numbers.{edge_at-row, edges-split}
 use Rattle.table.specs.Lent.{Lent, LentRow}
-use Rattle.table.proofs.Pieces.{reached, Piece, pieces-few}
-use Rattle.trace.specs.Trace.{traced, traced_entry, traced_bit}
+use Rattle.table.proofs.Pieces.{reached, Piece, lent-run}
+use Rattle.trace.specs.Trace.{traced, traced_entry}
 
--- A run: b of its n entries are written
+-- A run: what is written to a part of the table
 
-pub record RunFilled (t₀ : List ℕ) (start x n : ℕ) (t : List ℕ) (b : ℕ) : Type 0 where
-  pub few : b ≤ n
-  pub filled : t ≡ fill (traced_bit start x) start b t₀
+fill-outside : (f : ℕ → ℕ) (a n k : ℕ) (t : List ℕ) → (k < a) ⊎ (a + n ≤ k) → get_or (fill f a n t) k 0 ≡ get_or t k 0
+unfolding fill
+fill-outside f a zero k t out = refl
+fill-outside f a (suc n) k t (inl l) =
+    get_or-set_other (fill f a n t) (a + n) k (f (a + n)) 0 (λ e. omega arith) ∙ fill-outside f a n k t (inl l)
+fill-outside f a (suc n) k t (inr l) =
+    get_or-set_other (fill f a n t) (a + n) k (f (a + n)) 0 (λ e. omega arith) ∙ fill-outside f a n k t (inr (omega arith))
 
-module _ {t₀ : List ℕ} {start x n : ℕ} where
-  pub run-begin : RunFilled t₀ start x n t₀ 0
-  run-begin = record { few = omega arith; filled = fill_none (traced_bit start x) start t₀ }
+pub part-filled : (f : ℕ → ℕ) (a n : ℕ) (t ys : List ℕ) → length ys ≡ n → a + n ≤ length t → ((k : ℕ) → k < n → get_or ys k 0 ≡ f (a + k))
+    → put_mid a n t ys ≡ fill f a n t
+part-filled f a n t ys len within here =
+    ext_get_or 0 (put_mid a n t ys) (fill f a n t) (grind (arith, common_steps, length-fill f a n t))
+    (λ k h. elim (dec_lt k a) [
+      | yes l ↦ (search (rules, places)) ∙ sym (fill-outside f a n k t (inl l))
+      | no l ↦ elim (dec_lt k (a + n)) [
+        | yes m ↦
+            let at : a + (k - a) ≡ k = omega arith in
+            let put : get_or (put_mid a n t ys) k 0 ≡ get_or ys (k - a) 0 = search (rules, places) in
+            put ∙ here (k - a) (omega arith) ∙ sym (fill-at f a n (k - a) 0 t (omega arith) within) ∙ ap (λ (i : ℕ). get_or (fill f a n t) i 0) at
+        | no m ↦ (search (rules, places)) ∙ sym (fill-outside f a n k t (inr (omega arith)))
+      ]
+    ])
 
-  module _ {t : List ℕ} {b : ℕ} (so_far : RunFilled t₀ start x n t b) where
-    pub run_length : length t ≡ length t₀
-    run_length = ap length so_far.filled ∙ length-fill (traced_bit start x) start b t₀
+-- A row: its piece `at` is written next
 
-    pub run-turn : {y : ℕ} → b < n → y ≡ traced (bit x b) → RunFilled t₀ start x n (set t (start + b) y) (b + 1)
-    run-turn {y} h e =
-        let back : start + b - start ≡ b = omega arith in
-        let here : y ≡ traced_bit start x (start + b) = e ∙ ap (λ (k : ℕ). traced (bit x k)) (sym back) in
-        record { few = omega arith; filled = rw (so_far.filled, here) (fill_more (traced_bit start x) start b t₀) }
+pub row-lent : {L : Layer} {t₀ t : List ℕ} {v : Bool} {r : ℕ} → LentRow L t₀ v r → length t ≡ length t₀ → LentRow L t v r
+row-lent given same = record { sound = given.sound; exact = same ∙ given.exact; row = given.row }
 
-    pub run_end : n ≤ b → t ≡ fill (traced_bit start x) start n t₀
-    run_end over = let all : b ≡ n = omega (arith, so_far.few) in rw all at so_far.filled
+module _ {L : Layer} {v : Bool} {r : ℕ} {t : List ℕ} {at start x n : ℕ} (lent : LentRow L t v r) (p : Piece L v r at start x n) where
+  abbrev from : ℕ
+  from = row_start L.size v r + 8 * at
 
--- A row, in pieces: those before piece `at` are written
+  entry-is : (b : ℕ) → b < n → traced (bit x b) ≡ traced_entry L (from + b)
+  entry-is b h =
+      let edge = edge_at-row L.size lent.sound.whole.sized v (8 * at + b) r (omega (arith, p.fits)) lent.row in
+      ap traced
+      (p.marks.ones b (omega (arith, p.small)) ∙ ap (is_stick L) (sym (ap (edge_at L.size) (add_assoc (row_start L.size v r) (8 * at) b) ∙ edge)))
 
-pub record RowFilled (L : Layer) (v : Bool) (r : ℕ) (t₀ t : List ℕ) (at : ℕ) : Type 0 where
-  pub few : at ≤ 128
-  pub filled : t ≡ fill (traced_entry L) (row_start L.size v r) (reached L.size v at) t₀
+  pub row-turn : (t₀ run : List ℕ) → t ≡ fill (traced_entry L) (row_start L.size v r) (reached L.size v at) t₀
+      → length run ≡ length (mid_of (start + 8 * at) (start + 8 * at + n - (start + 8 * at)) t) → ((k : ℕ) → k < length run → get_or run k 0 ≡ traced (bit x k))
+      → put_mid (start + 8 * at) (start + 8 * at + n - (start + 8 * at)) t run ≡ fill (traced_entry L) (row_start L.size v r) (reached L.size v (at + 1)) t₀
+  row-turn t₀ run so_far len put =
+      let room = (lent-run lent p).within in
+      let all : length run ≡ n = len ∙ grind (arith, common_steps) in
+      let wide : from + n - from ≡ n = omega arith in
+      let within : from + n ≤ length t = rw p.starts at room in
+      rw (p.starts, wide)
+      (part-filled (traced_entry L) from n t run all within (λ k h. put k (omega arith) ∙ entry-is k h) ∙ rw (so_far, ← p.from, fill-add, p.to))
 
-module _ {L : Layer} {v : Bool} {r : ℕ} {t₀ : List ℕ} where
-  pub row-begin : RowFilled L v r t₀ t₀ 0
-  row-begin =
-      let none : reached L.size v 0 ≡ 0 = omega arith in
-      record { few = omega arith; filled = rw none (fill_none (traced_entry L) (row_start L.size v r) t₀) }
+-- A kind: its row r is written next
 
-  module _ {t : List ℕ} {at : ℕ} (so_far : RowFilled L v r t₀ t at) where
-    pub row-length : length t ≡ length t₀
-    row-length = ap length so_far.filled ∙ length-fill (traced_entry L) (row_start L.size v r) (reached L.size v at) t₀
-
-    pub row-lent : LentRow L t₀ v r → LentRow L t v r
-    row-lent given = record { sound = given.sound; exact = row-length ∙ given.exact; row = given.row }
-
-    pub row-end : {columns : ℕ} → columns ≡ edge_columns L.size v → columns ≤ 8 * at
-        → t ≡ fill (traced_entry L) (row_start L.size v r) (edge_columns L.size v) t₀
-    row-end wide over = let all : reached L.size v at ≡ edge_columns L.size v = omega arith in rw all at so_far.filled
-
-    module _ {start x n : ℕ} (given : LentRow L t₀ v r) (p : Piece L v r at start x n) where
-      abbrev first : ℕ
-      first = row_start L.size v r + 8 * at
-
-      entry-same : (b : ℕ) → b < n → traced_bit first x (first + b) ≡ traced_entry L (first + b)
-      entry-same b h =
-          let back : first + b - first ≡ b = omega arith in
-          let edge = edge_at-row L.size given.sound.whole.sized v (8 * at + b) r (omega (arith, p.fits)) given.row in
-          ap (λ (k : ℕ). traced (bit x k)) back
-          ∙ ap traced
-          (p.marks.ones b (omega (arith, p.small))
-          ∙ ap (is_stick L) (sym (ap (edge_at L.size) (add_assoc (row_start L.size v r) (8 * at) b) ∙ edge)))
-
-      pub row-turn : {u : List ℕ} → u ≡ fill (traced_bit (start + 8 * at) x) (start + 8 * at) n t → RowFilled L v r t₀ u (at + 1)
-      row-turn e = record {
-        few = pieces-few given p;
-        filled =
-            rw p.starts at e
-            ∙ fill-same (traced_bit first x) (traced_entry L) first n t entry-same
-            ∙ rw (so_far.filled, ← p.from, fill-add, p.to);
-      }
-
--- A kind, by rows: those before r are written
-
-pub record KindFilled (L : Layer) (v : Bool) (t₀ t : List ℕ) (r : ℕ) : Type 0 where
-  pub few : r ≤ edge_rows L.size v
-  pub filled : t ≡ fill (traced_entry L) (kind_start L.size v) (r * edge_columns L.size v) t₀
-
-module _ {L : Layer} {v : Bool} {t₀ : List ℕ} where
-  pub kind-begin : KindFilled L v t₀ t₀ 0
-  kind-begin = record { few = omega arith; filled = rw zero-mul (fill_none (traced_entry L) (kind_start L.size v) t₀) }
-
-  module _ {t : List ℕ} {r : ℕ} (so_far : KindFilled L v t₀ t r) where
-    pub kind-length : length t ≡ length t₀
-    kind-length = ap length so_far.filled ∙ length-fill (traced_entry L) (kind_start L.size v) (r * edge_columns L.size v) t₀
-
-    pub kind-lent : Lent L t₀ → Lent L t
-    kind-lent given = record { sound = given.sound; exact = kind-length ∙ given.exact }
-
-    pub kind-turn : {u : List ℕ} → r < edge_rows L.size v
-        → u ≡ fill (traced_entry L) (row_start L.size v r) (edge_columns L.size v) t → KindFilled L v t₀ u (r + 1)
-    kind-turn below e =
-        let next : r * edge_columns L.size v + edge_columns L.size v ≡ (r + 1) * edge_columns L.size v = omega arith in
-        record { few = omega arith; filled = e ∙ rw (so_far.filled, fill-add, next) }
-
-    pub kind-end : {rows : ℕ} → rows ≡ edge_rows L.size v → rows ≤ r
-        → t ≡ fill (traced_entry L) (kind_start L.size v) (edge_rows L.size v * edge_columns L.size v) t₀
-    kind-end high over = let all : r ≡ edge_rows L.size v = omega (arith, so_far.few) in rw all at so_far.filled
+pub kind-turn : (L : Layer) (v : Bool) (t₀ : List ℕ) (r : ℕ) {t u : List ℕ}
+    → t ≡ fill (traced_entry L) (kind_start L.size v) (r * edge_columns L.size v) t₀
+    → u ≡ fill (traced_entry L) (row_start L.size v r) (edge_columns L.size v) t
+    → u ≡ fill (traced_entry L) (kind_start L.size v) ((r + 1) * edge_columns L.size v) t₀
+kind-turn L v t₀ r so_far e =
+    let next : r * edge_columns L.size v + edge_columns L.size v ≡ (r + 1) * edge_columns L.size v = omega arith in
+    e ∙ rw (so_far, fill-add, next)
 
 -- Both kinds
 

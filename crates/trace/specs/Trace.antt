@@ -1,7 +1,7 @@
 -- Trace: "every stick kept at 128".
-use Rattle.std.specs.Prelude.{Bool, cond, List, ℕ, ◌-◌, length}
+use Rattle.std.specs.Prelude.{Bool, cond, List, ℕ, length}
 use Rattle.arith.specs.Ranges.{tabulate}
-use Rattle.grid.specs.Layer.{Layer, bit}
+use Rattle.grid.specs.Layer.{Layer}
 use Rattle.grid.specs.Edges.{edge_count, stick_at}
 use Rattle.grid.specs.Questions.{first_no, if_all_yes, number_of}
 use Rattle.table.specs.Entries.{encoded, length_questions}
@@ -16,10 +16,6 @@ traced stick = encoded (cond stick (Kept 128) Nothing)
 -- that of edge k
 abbrev pub traced_entry : Layer → ℕ → ℕ
 traced_entry L k = traced (stick_at L k)
-
--- the same for the entries from a place on, of which the ones of a byte say which are on sticks
-abbrev pub traced_bit : ℕ → ℕ → ℕ → ℕ
-traced_bit start marks k = traced (bit marks (k - start))
 
 -- the number of a refusal and its place, both 0 where the call is done; and the table at exit
 pub record Outcome : Type 0 where

@@ -24,8 +24,7 @@ pub fn counts(w: u16, h: u16, bitmap: &[u8], table: &[u16]) -> Counted
         width: w as usize,
         height: h as usize,
     };
-    let answer = table::ask_lengths(size, bitmap, table.len());
-    match answer {
+    match table::ask_lengths(size, bitmap, table.len()) {
         Answer::Yes => Counted::Done {
             inside: mask::inside_count(size, bitmap),
             sticks: mask::stick_count(size, bitmap),

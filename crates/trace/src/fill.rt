@@ -1,10 +1,10 @@
 // Writes the table of a traced layer, eight entries at a time, from the byte that marks the sticks among them.
-ghost use Rattle.std.specs.Prelude.{◌≡◌, ◌<◌, ◌*◌};
+ghost use Rattle.std.specs.Prelude.{◌≡◌, ◌<◌, ◌≤◌, ◌*◌, length, slice_index, EachIndex};
 ghost use Rattle.arith.specs.Ranges.{fill};
 ghost use Rattle.grid.specs.Layer.{layer_of, bit};
 ghost use Rattle.grid.specs.Edges.{edge_columns, edge_rows, edge_count, kind_start, row_start};
-ghost use Rattle.table.specs.Lent.{Lent, LentRow, LentRun};
-ghost use Rattle.trace.specs.Trace.{traced, traced_entry, traced_bit};
+ghost use Rattle.table.specs.Lent.{Lent, LentRow};
+ghost use Rattle.trace.specs.Trace.{traced, traced_entry};
 
 use grid::Size;
 use table::{Entry, encoded_of};
@@ -21,15 +21,13 @@ fn entry_at(marks: u8, b: usize) -> u16
     }
 }
 
-// `count` entries from `start` on: bit b of marks says whether the b-th of them is on a stick.
-fn fill_run(table: &mut [u16], start: usize, count: usize, marks: u8)
-    requires { LentRun table.old start count }
-    ensures { table.new ≡ fill (traced_bit start marks) start count table.old }
+// The entries of up to eight edges: bit b of marks says whether the b-th of them is on a stick.
+fn fill_run(run: &mut [u16], marks: u8)
+    requires { length run.old ≤ 8 }
+    ensures { EachIndex run.new (λ b. slice_index run.new b ≡ traced (bit marks b)) }
 {
-    let mut b = 0;
-    while b < count {
-        table[start + b] = entry_at(marks, b);
-        b += 1;
+    for (b, entry) in run.iter_mut().enumerate() {
+        *entry = entry_at(marks, b);
     }
 }
 
@@ -39,12 +37,11 @@ fn fill_row(size: Size, bitmap: &[u8], table: &mut [u16], vertical: bool, row: u
 {
     let columns = grid::edge_columns(size, vertical);
     let start = grid::row_start(size, vertical, row);
-    let mut at = 0;
-    while 8 * at < columns {
+    for at in 0..columns.div_ceil(8) {
         let marks = mask::stick_byte(size, bitmap, vertical, at, row);
-        let count = mask::run_length(columns, 8 * at);
-        fill_run(table, start + 8 * at, count, marks);
-        at += 1;
+        let from = start + 8 * at;
+        let to = from + mask::run_length(columns, 8 * at);
+        fill_run(&mut table[from..to], marks);
     }
 }
 
@@ -52,11 +49,8 @@ fn fill_kind(size: Size, bitmap: &[u8], table: &mut [u16], vertical: bool)
     requires { Lent (layer_of size bitmap.now) table.old }
     ensures { table.new ≡ fill (traced_entry (layer_of size bitmap.now)) (kind_start size vertical) (edge_rows size vertical * edge_columns size vertical) table.old }
 {
-    let rows = grid::edge_rows(size, vertical);
-    let mut row = 0;
-    while row < rows {
+    for row in 0..grid::edge_rows(size, vertical) {
         fill_row(size, bitmap, table, vertical, row);
-        row += 1;
     }
 }
 

@@ -21,8 +21,7 @@ pub fn trace(w: u16, h: u16, bitmap: &[u8], table: &mut [u16]) -> Traced
         width: w as usize,
         height: h as usize,
     };
-    let answer = table::ask_lengths(size, bitmap, table.len());
-    match answer {
+    match table::ask_lengths(size, bitmap, table.len()) {
         Answer::Yes => {
             fill_table(size, bitmap, table);
             Traced::Done

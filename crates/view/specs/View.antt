@@ -1,8 +1,7 @@
 -- The layer view: "a record that refers to the lent bitmap with its width and height, giving one sample at a time".
-use Rattle.std.specs.Prelude.{Bool, false, cond, ◌&&◌, List, [], ℕ, eqb, ltb}
+use Rattle.std.specs.Prelude.{Bool, false, ◌&&◌, [], ℕ, ltb}
 use Rattle.grid.specs.Layer.{Layer, layer_of, size_of, sample}
 use Rattle.grid.specs.Questions.{first_no, if_all_yes, layer_questions, number_of}
-use Rattle.view.specs.declared.making.Made.{Made}
 use Rattle.view.specs.declared.viewing.View.{View}
 use Rattle.view.specs.declared.viewing.Sampled.{Sampled}
 
@@ -22,14 +21,6 @@ view_of L =
     if_all_yes (first_no (layer_questions L))
     (λ q place. record { layer = layer_of (size_of 0 0) []; number = number_of q; place = place })
     (record { layer = L; number = 0; place = 0 })
-
--- the same without the bytes, and the bytes by the number
-abbrev pub made_of : Shown → Made
-made_of v =
-    record { width = v.layer.size.width; height = v.layer.size.height; number = v.number; place = v.place }
-
-abbrev pub part_of : ℕ → List ℕ → List ℕ
-part_of number bitmap = cond (eqb number 0) bitmap []
 
 -- "a sample off the grid reads as outside"
 unfoldable pub sample_or_outside : Layer → ℕ → ℕ → Bool

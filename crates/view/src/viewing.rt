@@ -1,9 +1,9 @@
-// The layer view and the thin functions over it.
+// The layer view: a lent bitmap with its sides, made by one call and read by another.
 ghost use Rattle.std.specs.Prelude.{◌≡◌};
 ghost use Rattle.grid.specs.Layer.{layer_of, size_of};
 ghost use Rattle.view.specs.View.{shown, view_of, sample_or_outside, sample_of};
 
-use super::making::{made_of, part_of, sample_of};
+use grid::{Answer, Size};
 
 // A lent bitmap with its sides, or an empty part with sides 0 and the number and place of the refusal.
 #[derive(Clone, Copy)]
@@ -27,22 +27,39 @@ pub struct Sampled {
 pub fn make_view<'a>(w: u16, h: u16, bitmap: &'a [u8]) -> View<'a>
     ensures { shown result ≡ view_of (layer_of (size_of w h) bitmap.now) }
 {
-    let made = made_of(w, h, bitmap);
-    let part = part_of(bitmap, made.number);
-    View {
-        bitmap: part,
-        width: made.width,
-        height: made.height,
-        number: made.number,
-        place: made.place,
+    let size = Size {
+        width: w as usize,
+        height: h as usize,
+    };
+    match grid::ask_layer(size, bitmap) {
+        Answer::Yes => View {
+            bitmap,
+            width: w,
+            height: h,
+            number: 0,
+            place: 0,
+        },
+        Answer::No(q, place) => View {
+            bitmap: &[],
+            width: 0,
+            height: 0,
+            number: grid::refusal_number(q),
+            place,
+        },
     }
 }
 
-// Whether a sample is inside. Off the grid it is not.
+// Whether a sample is inside. Off the grid it is not. No view that was made asks for a byte past the end of its bitmap.
 pub fn sample<'a>(v: View<'a>, column: u16, row: u16) -> bool
     ensures { result ≡ sample_or_outside (shown v.entry).layer column row }
 {
-    sample_of(v.bitmap, v.width, v.height, column, row)
+    if column >= v.width || row >= v.height {
+        return false;
+    }
+    let stride = (v.width as usize).div_ceil(8);
+    let at = row as usize * stride + column as usize / 8;
+    let byte = v.bitmap.get(at).copied().unwrap_or(0);
+    (byte >> (column % 8)) % 2 == 1
 }
 
 // One sample by a view that is made for it.
@@ -50,10 +67,9 @@ pub fn sample_at(w: u16, h: u16, bitmap: &[u8], column: u16, row: u16) -> Sample
     ensures { result ≡ sample_of (layer_of (size_of w h) bitmap.now) column row }
 {
     let view = make_view(w, h, bitmap);
-    let inside = sample(view, column, row);
     Sampled {
         number: view.number,
         place: view.place,
-        inside,
+        inside: sample(view, column, row),
     }
 }

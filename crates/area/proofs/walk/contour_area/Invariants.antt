@@ -5,8 +5,8 @@ use Rattle.contour.specs.Contours.{walk_of}
 use Rattle.area.proofs.Summing.{PartSummed}
 use Rattle.area.proofs.walk.contour_area.Given as goal
 
-abbrev pub invariant-loop-here : goal.invariant-loop-here
-invariant-loop-here l = PartSummed (layer_of l.size l.bitmap) l.table l.first l.e l.area l.trail
+abbrev pub invariant-loop-size : goal.invariant-loop-size
+invariant-loop-size l = PartSummed (layer_of l.size l.bitmap) l.table l.first l.e l.walked
 
-abbrev pub decreases-loop-here : goal.decreases-loop-here
-decreases-loop-here l = length (rest (walk_of (layer_of l.size l.bitmap)) l.e l.first)
+abbrev pub decreases-loop-size : goal.decreases-loop-size
+decreases-loop-size l = length (rest (walk_of (layer_of l.size l.bitmap)) l.e l.first)

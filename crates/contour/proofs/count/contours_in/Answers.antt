@@ -2,16 +2,20 @@
 use mathlib.Core.Path.{◌∙◌}
 use native.Mathlib.Omega.{arith}
 use Rattle.arith.proofs.Ranges.{count-le}
-use Rattle.grid.specs.Layer.{layer_of}
 use Rattle.bitset.specs.Sets.{set_bits, has}
 use Rattle.contour.proofs.FirstSets.{counted-below, set-count}
 use Rattle.contour.proofs.count.contours_in.Goals as goal
 
 pub member_count-requires : goal.member_count-requires
 member_count-requires c =
-    let a = c.args in
-    record { set_len = (counted-below (layer_of a.size a.bitmap.now) c.requires.sound a.set.now c.requires _ c.kind_start.ensures).0; end_le_set_bits = (counted-below (layer_of a.size a.bitmap.now) c.requires.sound a.set.now c.requires _ c.kind_start.ensures).1.0; none_above = (counted-below (layer_of a.size a.bitmap.now) c.requires.sound a.set.now c.requires _ c.kind_start.ensures).1.1 }
+    let a = c.args.contours in
+    let below = counted-below _ a.layer.sound a.firsts.now a.first_set _ c.kind_start.ensures in
+    record { end_le_set_bits = below.1.0; none_above = below.1.1 }
 
 pub returns : goal.returns
 returns c =
-    let a = c.args in record { value = c.member_count.ensures ∙ set-count (layer_of a.size a.bitmap.now) c.requires.sound a.set.now c.requires; upper_bound = omega (arith, c.member_count.ensures, count-le (has a.set.now) set_bits) }
+    let a = c.args.contours in
+    record {
+      value = c.member_count.ensures ∙ set-count _ a.layer.sound a.firsts.now a.first_set;
+      upper_bound = omega (arith, c.member_count.ensures, count-le (has a.firsts.now) set_bits);
+    }

@@ -3,4 +3,4 @@ use Rattle.bitset.proofs.Sets.{empty-set}
 use Rattle.contour.proofs.count.count_contours.Goals as goal
 
 pub first_sticks-requires : goal.first_sticks-requires
-first_sticks-requires c = record { sound = c.requires; empty = empty-set }
+first_sticks-requires c = record { empty = empty-set }

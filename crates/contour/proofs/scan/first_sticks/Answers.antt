@@ -4,7 +4,7 @@ use Rattle.contour.proofs.Scanning.{rows_start, row-start, rows-turn, rows_last}
 use Rattle.contour.proofs.scan.first_sticks.Goals as goal
 
 pub loop-row-init : goal.loop-row-init
-loop-row-init c = let given = c.requires in rows_start given.sound given.empty
+loop-row-init c = let given = c.requires in rows_start c.args.layer.sound given.empty
 
 pub scan_row-requires : goal.scan_row-requires
 scan_row-requires c = row-start c.loop-row.invariant c.loop-row-test.true

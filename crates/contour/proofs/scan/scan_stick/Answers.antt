@@ -11,10 +11,10 @@ pub overflow_add-n : goal.overflow_add-n
 overflow_add-n c = omega (arith, here-fits c.requires)
 
 pub contains-requires : goal.contains-requires
-contains-requires c = let here = c.requires in record { set_len = here.scanned.sized; n_lt_set_bits = here-fits here }
+contains-requires c = let here = c.requires in record { n_lt_set_bits = here-fits here }
 
 pub remove-requires : goal.remove-requires
-remove-requires c = let here = c.requires in record { set_len = here.scanned.sized; n_lt_set_bits = here-fits here }
+remove-requires c = let here = c.requires in record { n_lt_set_bits = here-fits here }
 
 pub mark_contour-requires : goal.mark_contour-requires
 mark_contour-requires c = here-markable c.requires

@@ -1,10 +1,7 @@
 -- `bore_sticks` meets its contract. The invariant: the bits of the sticks on bores that the cursor has passed are set, and no others.
-use Rattle.contour.proofs.Cursors.{fewer, here-first, none_left}
+use Rattle.contour.proofs.Cursors.{here-first, none_left}
 use Rattle.nesting.proofs.Marking.{bores-start, bores-markable, bores-turn, bores-end}
 use Rattle.nesting.proofs.bore.bore_sticks.Goals as goal
-
-pub first_contour-at-requires : goal.first_contour-at-requires
-first_contour-at-requires c = c.requires.first_set
 
 pub loop-at-init : goal.loop-at-init
 loop-at-init c = let given = c.requires in bores-start given.first_set.sound c.first_contour-at.ensures given.empty
@@ -13,13 +10,6 @@ pub mark_bore-requires : goal.mark_bore-requires
 mark_bore-requires c =
     let inv = c.loop-at.invariant in
     bores-markable c.requires.first_set.sound inv (here-first inv.placed c.loop-at-test.true)
-
-pub next_contour-at-requires : goal.next_contour-at-requires
-next_contour-at-requires c =
-    record { first_set = c.requires.first_set; placed = c.loop-at.invariant.placed; more = c.loop-at-test.true }
-
-pub loop-at-smaller : goal.loop-at-smaller
-loop-at-smaller c = fewer c.next_contour-at.ensures.left
 
 pub loop-at-preserved : goal.loop-at-preserved
 loop-at-preserved c =

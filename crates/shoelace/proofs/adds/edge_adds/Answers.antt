@@ -1,10 +1,9 @@
--- `edge_adds` meets its contract.
+-- `edge_adds` meets its contract: the edge ends at the next kept vertex.
 use mathlib.Core.Path.{◌≡◌, ap, ◌∙◌}
 use Rattle.arith.proofs.Bounds.{sized, exact, within}
 use Rattle.grid.specs.Layer.{layer_of}
 use Rattle.grid.specs.declared.edge.Edge.{Edge}
 use Rattle.table.specs.Vertices.{offset_at}
-use Rattle.table.specs.Lent.{LentAt}
 use Rattle.table.proofs.Lent.{has-entry}
 use Rattle.drawn.specs.Neighbours.{next_kept}
 use Rattle.drawn.specs.Drawn.{vertex}
@@ -15,26 +14,15 @@ use Rattle.shoelace.proofs.adds.edge_adds.Goals as goal
 
 pub kept_after-end-requires : goal.kept_after-end-requires
 kept_after-end-requires c =
-    let given : (let a = c.args in LentAt (layer_of a.size a.bitmap.now) a.table.now a.e) =
-    lent_at c.requires.held_stick in
-    let a = c.args in
-    record { lent_at = given; not_removed = kept-not-removed (layer_of a.size a.bitmap.now) a.table.now a.e c.requires.kept }
+    record { lent_at = lent_at c.requires.held_stick; not_removed = kept-not-removed _ _ _ c.requires.kept }
 
 pub vertex_at-requires : goal.vertex_at-requires
-vertex_at-requires c =
-    let given : (let a = c.args in LentAt (layer_of a.size a.bitmap.now) a.table.now a.e) =
-    lent_at c.requires.held_stick in
-    has-entry (given)
+vertex_at-requires c = has-entry (lent_at c.requires.held_stick)
 
 pub vertex_at-requires-2 : goal.vertex_at-requires-2
 vertex_at-requires-2 c =
-    let given : (let a = c.args in LentAt (layer_of a.size a.bitmap.now) a.table.now a.e) =
-    lent_at c.requires.held_stick in
-    let lent = given in
-    has-entry (record { sound = lent.sound; exact = lent.exact; stick = c.kept_after-end.ensures.stick })
-
-pub cross_of-requires : goal.cross_of-requires
-cross_of-requires c = record { p_near = c.vertex_at.ensures.near; q_near = c.vertex_at-2.ensures.near }
+    let all = c.requires.held_stick.accepted in
+    has-entry (record { sound = all.sound; exact = all.exact; stick = c.kept_after-end.ensures.stick })
 
 pub returns : goal.returns
 unfolding offset_at

@@ -1,10 +1,11 @@
-use Prim.Native.Nat.{◌-◌}
+use mathlib.Core.Path.{◌≡◌}
+use Prim.Native.Nat.{◌*◌}
+use Rattle.arith.specs.Ranges.{fill}
 use Rattle.grid.specs.Layer.{layer_of}
-use Rattle.trace.proofs.Entries.{KindFilled}
+use Rattle.grid.specs.Edges.{edge_columns, kind_start}
+use Rattle.trace.specs.Trace.{traced_entry}
 use Rattle.trace.proofs.fill.fill_kind.Given as goal
 
 abbrev pub invariant-loop-row : goal.invariant-loop-row
-invariant-loop-row l = KindFilled (layer_of l.size l.bitmap) l.vertical l.initial.table l.table l.row
-
-abbrev pub decreases-loop-row : goal.decreases-loop-row
-decreases-loop-row l = l.rows - l.row
+invariant-loop-row l =
+    l.table ≡ fill (traced_entry (layer_of l.size l.bitmap)) (kind_start l.size l.vertical) (l.row * edge_columns l.size l.vertical) l.initial.table

@@ -1,32 +1,14 @@
--- `trace` meets its contract.
-use mathlib.Core.Path.{◌≡◌, sym, ◌∙◌}
-use lib.ListN.{length}
-use Rattle.grid.specs.Layer.{Layer, layer_of, size_of}
-use Rattle.grid.specs.Questions.{first_no}
-use Rattle.grid.specs.declared.question.Answer.TheVariants.{Yes}
-use Rattle.table.specs.Entries.{length_questions}
+-- `trace` meets its contract: by the answer to questions 1 to 5.
+use mathlib.Core.Path.{sym}
 use Rattle.table.proofs.Lengths.{lengths-of}
 use Rattle.trace.proofs.Outcomes.{trace-done, trace-refused}
 use Rattle.trace.proofs.tracing.trace.Goals as goal
 
 pub fill_table-requires : goal.fill_table-requires
-fill_table-requires c =
-    let layer : Layer =
-    layer_of (size_of c.args.w c.args.h) c.args.bitmap.now in
-    let all_yes : first_no (length_questions ((layer_of (size_of c.args.w c.args.h) c.args.bitmap.now)) (length c.args.table.now)) ≡ Yes =
-    sym c.ask_lengths-answer.ensures ∙ c.in-Yes.is in
-    lengths-of layer c.args.table.now (all_yes)
+fill_table-requires c = lengths-of _ _ (sym c.in-Yes.ensures)
 
 pub returns-in-Yes : goal.returns-in-Yes
-returns-in-Yes c =
-    let layer : Layer =
-    layer_of (size_of c.args.w c.args.h) c.args.bitmap.now in
-    let all_yes : first_no (length_questions ((layer_of (size_of c.args.w c.args.h) c.args.bitmap.now)) (length c.args.table.now)) ≡ Yes =
-    sym c.ask_lengths-answer.ensures ∙ c.in-Yes.is in
-    trace-done layer c.args.table.now all_yes c.fill_table.ensures
+returns-in-Yes c = trace-done _ _ (sym c.in-Yes.ensures) c.fill_table.ensures
 
 pub returns-in-No : goal.returns-in-No
-returns-in-No c =
-    let layer : Layer =
-    layer_of (size_of c.args.w c.args.h) c.args.bitmap.now in
-    trace-refused layer c.args.table.now (sym c.ask_lengths-answer.ensures ∙ c.in-No.is)
+returns-in-No c = trace-refused _ _ (sym c.in-No.ensures)

@@ -8,6 +8,6 @@ pub returns : goal.returns
 returns c =
     let a = c.args in
     let view = c.make_view-view in
-    (λ i. record { number = view.result.number; place = view.result.place; inside = c.sample-inside.ensures i })
+    (λ i. record { number = view.result.number; place = view.result.place; inside = c.sample.ensures i })
     ∙ ap (λ v. gives v a.column a.row) view.ensures
     ∙ gives-is (layer_of (size_of a.w a.h) a.bitmap.now) a.column a.row

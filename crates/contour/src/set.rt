@@ -1,0 +1,14 @@
+// The contours of a layer, by the set of their first sticks.
+ghost use Rattle.grid.specs.Plain.{plain};
+ghost use Rattle.contour.specs.Sets.{FirstSet};
+
+use bitset::EdgeSet;
+use grid::Layer;
+
+// A layer and the set of its first sticks.
+#[derive(Clone, Copy)]
+pub struct ContourSet<'a> {
+    pub layer: Layer<'a>,
+    pub firsts: &'a EdgeSet,
+    pub ghost first_set: { FirstSet (plain layer) firsts.now },
+}
