@@ -36,6 +36,7 @@ euclid-size (negsuc a) (negsuc b) = omega (arith, div-le_self a (suc b))
 pub above-exact : {z : ℤ} (s : Bounded z) → T (ok s) → pos 0 <ℤ pure s → pos 0 <ℤ z
 above-exact s t h = subst (λ (x : ℤ). pos 0 <ℤ x) (sym (exact s t)) h
 
+-- a test as a number
 pub one-most : (b : Bool) → bool_byte b ≤ 1
 one-most true = omega arith
 one-most false = omega arith
@@ -63,7 +64,7 @@ above-times k l (negsuc d) h = absurd h.lt
 
 -- ---- the fraction that is rounded, its denominator above 0
 
--- the numerator over the size of the denominator, by the sign of that
+-- the sign of the denominator, by which the numerator over its size is multiplied
 pub sign-most : (d : ℤ) → nat_abs (int_signum d) ≤ 1
 sign-most (pos d) = omega arith
 sign-most (negsuc d) = omega arith

@@ -11,8 +11,8 @@ use grid::Edge;
 // The offset toward which a half goes.
 const MIDDLE: i64 = 128;
 
-// n / d for a d above 0, rounded to the nearest whole number, a half toward MIDDLE: n / d + 1/2 rounded down; above MIDDLE, where a half goes
-// down, 1/(2d) less.
+// n / d for a d above 0, rounded to the nearest whole number, a half toward MIDDLE: n / d + 1/2 rounded down, as `div_euclid` does by a number
+// above 0; above MIDDLE, where a half goes down, 1/(2d) less.
 fn nearest_div(n: i64, d: i64) -> i64
     requires { Divisible n d (2 ^ 42) (2 ^ 42) }
     ensures value { result ≡ nearest_to middle n (nat_abs d) }
