@@ -1,1 +1,0 @@
--- Laws that belong to no one function.
