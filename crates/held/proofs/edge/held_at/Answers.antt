@@ -26,7 +26,7 @@ vertex_at-q-requires c =
 pub crosses_run-requires : goal.crosses_run-requires
 crosses_run-requires c =
     let given = c.requires.lent_at in
-    record { p_near = c.vertex_at-p.ensures.near; q_near = c.vertex_at-q.ensures.near; stick = given.stick }
+    record { sound = c.args.layer.sound; p_near = c.vertex_at-p.ensures.near; q_near = c.vertex_at-q.ensures.near; stick = given.stick }
 
 pub returns : goal.returns
 unfolding edge_crosses offset_at
