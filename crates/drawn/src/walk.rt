@@ -1,11 +1,11 @@
 // The next and the previous kept vertex of a contour, by a walk over the removed ones.
 ghost use Rattle.std.specs.Prelude.{◌≡◌, false};
-ghost use Rattle.grid.specs.Layer.{layer_of};
+ghost use Rattle.grid.specs.Plain.{plain};
 ghost use Rattle.table.specs.Vertices.{removed_at};
 ghost use Rattle.table.specs.Lent.{LentAt};
 ghost use Rattle.drawn.specs.Neighbours.{gap_after, gap_before, next_kept, previous_kept, NeighbourFound};
 
-use grid::{Edge, Size};
+use grid::{Edge, Layer};
 use step::{next_stick, previous_stick};
 use table::{entry_at, is_removed};
 
@@ -17,16 +17,16 @@ pub struct EdgeEnd {
 }
 
 // The next kept stick after e. As e is not removed, the walk ends when it is back at e, if not before.
-pub fn kept_after(size: Size, bitmap: &[u8], table: &[u16], e: Edge) -> EdgeEnd
-    requires lent_at { LentAt (layer_of size bitmap.now) table.now e }
-    requires not_removed { removed_at (layer_of size bitmap.now) table.now e ≡ false }
-    ensures { NeighbourFound (layer_of size bitmap.now) (next_kept (layer_of size bitmap.now) table.now e) (gap_after (layer_of size bitmap.now) table.now e) result }
+pub fn kept_after(layer: Layer, table: &[u16], e: Edge) -> EdgeEnd
+    requires lent_at { LentAt (plain layer) table.now e }
+    requires not_removed { removed_at (plain layer) table.now e ≡ false }
+    ensures { NeighbourFound (plain layer.entry) (next_kept (plain layer.entry) table.now e) (gap_after (plain layer.entry) table.now e) result }
 {
     let mut at = e;
     let mut gap: usize = 0;
     loop {
-        at = next_stick(size, bitmap, at);
-        if !is_removed(entry_at(size, table, at)) {
+        at = next_stick(layer, at);
+        if !is_removed(entry_at(layer.size, table, at)) {
             break;
         }
         gap += 1;
@@ -35,16 +35,16 @@ pub fn kept_after(size: Size, bitmap: &[u8], table: &[u16], e: Edge) -> EdgeEnd
 }
 
 // The kept stick before e, by the walk back.
-pub fn kept_before(size: Size, bitmap: &[u8], table: &[u16], e: Edge) -> EdgeEnd
-    requires lent_at { LentAt (layer_of size bitmap.now) table.now e }
-    requires not_removed { removed_at (layer_of size bitmap.now) table.now e ≡ false }
-    ensures { NeighbourFound (layer_of size bitmap.now) (previous_kept (layer_of size bitmap.now) table.now e) (gap_before (layer_of size bitmap.now) table.now e) result }
+pub fn kept_before(layer: Layer, table: &[u16], e: Edge) -> EdgeEnd
+    requires lent_at { LentAt (plain layer) table.now e }
+    requires not_removed { removed_at (plain layer) table.now e ≡ false }
+    ensures { NeighbourFound (plain layer.entry) (previous_kept (plain layer.entry) table.now e) (gap_before (plain layer.entry) table.now e) result }
 {
     let mut at = e;
     let mut gap: usize = 0;
     loop {
-        at = previous_stick(size, bitmap, at);
-        if !is_removed(entry_at(size, table, at)) {
+        at = previous_stick(layer, at);
+        if !is_removed(entry_at(layer.size, table, at)) {
             break;
         }
         gap += 1; // a removed stick lies between

@@ -3,7 +3,7 @@
 use mathlib.Core.Path.{◌≡◌, sym, ap, ◌∙◌}
 use Prim.Native.Nat.{◌<◌}
 use native.Mathlib.Omega.{arith}
-use Rattle.grid.specs.Layer.{layer_of}
+use Rattle.grid.specs.Plain.{plain}
 use Rattle.grid.specs.Edges.{edge_count}
 use Rattle.grid.proofs.Numbers.{edges-small}
 use Rattle.table.specs.Vertices.{is_removed, removed_at}
@@ -11,53 +11,53 @@ use Rattle.table.proofs.Lent.{has-entry}
 use Rattle.drawn.proofs.GapWalk.{forth, passed_start, passed_here, passed-below, passed-stick, passed-turn, passed-last}
 use Rattle.drawn.proofs.walk.kept_after.Goals as goal
 
-pub loop-size-init : goal.loop-size-init
-loop-size-init c = let given = c.requires.lent_at in passed_start _ (forth _ given.sound) given.stick
+pub loop-gap-init : goal.loop-gap-init
+loop-gap-init c = let given = c.requires.lent_at in passed_start _ (forth _ c.args.layer.sound) given.stick
 
 pub next_stick-at-requires : goal.next_stick-at-requires
 next_stick-at-requires c =
     let given = c.requires.lent_at in
-    record { sound = given.sound; stick = passed_here _ (forth _ given.sound) given.stick c.loop-size.invariant }
+    record { stick = passed_here _ (forth _ c.args.layer.sound) given.stick c.loop-gap.invariant }
 
 pub entry_at-requires : goal.entry_at-requires
 entry_at-requires c =
     let given = c.requires.lent_at in
     has-entry (record {
-      sound = given.sound;
+      sound = c.args.layer.sound;
       exact = given.exact;
-      stick = passed-stick _ (forth _ given.sound) given.stick c.loop-size.invariant c.next_stick-at.ensures;
+      stick = passed-stick _ (forth _ c.args.layer.sound) given.stick c.loop-gap.invariant c.next_stick-at.ensures;
     })
 
 pub overflow_add-gap : goal.overflow_add-gap
 overflow_add-gap c =
-    let few : c.loop-size.gap < edge_count c.args.size =
+    let few : c.loop-gap.gap < edge_count c.args.layer.size =
     let given = c.requires.lent_at in
-    passed-below _ (forth _ given.sound) given.stick c.loop-size.invariant in
+    passed-below _ (forth _ c.args.layer.sound) given.stick c.loop-gap.invariant in
     omega (arith, few, edges-small _ c.requires.lent_at.sound.whole.sized)
 
-pub loop-size-smaller : goal.loop-size-smaller
-loop-size-smaller c =
-    let few : c.loop-size.gap < edge_count c.args.size =
+pub loop-gap-smaller : goal.loop-gap-smaller
+loop-gap-smaller c =
+    let few : c.loop-gap.gap < edge_count c.args.layer.size =
     let given = c.requires.lent_at in
-    passed-below _ (forth _ given.sound) given.stick c.loop-size.invariant in
+    passed-below _ (forth _ c.args.layer.sound) given.stick c.loop-gap.invariant in
     omega (arith, few)
 
-pub loop-size-preserved : goal.loop-size-preserved
+pub loop-gap-preserved : goal.loop-gap-preserved
 unfolding removed_at
-loop-size-preserved c =
+loop-gap-preserved c =
     let removed-is : (let a = c.args in
-    removed_at (layer_of a.size a.bitmap.now) a.table.now c.next_stick-at.result ≡ c.is_removed.result) =
+    removed_at (plain a.layer) a.table.now c.next_stick-at.result ≡ c.is_removed.result) =
     sym (c.is_removed.ensures ∙ ap is_removed c.entry_at.ensures) in
     let given = c.requires.lent_at in
-    passed-turn _ (forth _ given.sound) given.stick c.loop-size.invariant c.next_stick-at.ensures c.requires.not_removed
+    passed-turn _ (forth _ c.args.layer.sound) given.stick c.loop-gap.invariant c.next_stick-at.ensures c.requires.not_removed
     (removed-is ∙ c.if-not-is_removed.false)
 
 pub returns : goal.returns
 unfolding removed_at
 returns c =
     let removed-is : (let a = c.args in
-    removed_at (layer_of a.size a.bitmap.now) a.table.now c.next_stick-at.result ≡ c.is_removed.result) =
+    removed_at (plain a.layer) a.table.now c.next_stick-at.result ≡ c.is_removed.result) =
     sym (c.is_removed.ensures ∙ ap is_removed c.entry_at.ensures) in
     let given = c.requires.lent_at in
-    passed-last _ (forth _ given.sound) given.stick c.loop-size.invariant c.next_stick-at.ensures
+    passed-last _ (forth _ c.args.layer.sound) given.stick c.loop-gap.invariant c.next_stick-at.ensures
     (removed-is ∙ c.if-not-is_removed.true)
