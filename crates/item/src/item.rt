@@ -67,20 +67,16 @@ fn byte_of(item: Item) -> u8
     }
 }
 
-// Writes an item out: one byte, and the coordinates of its point if it has one.
-pub fn put_item(items: &mut [u8], points: &mut [f64], at: Written, item: Item) -> Written
-    requires { Room (buffers_of items.old points.old at) (item ∷ []) }
-    ensures { buffers_of items.new points.new result ≡ write_item (buffers_of items.old points.old at) item }
+// Writes an item out where the outputs are written to, and moves that on: one byte, and the coordinates of its point if it has one.
+pub fn put_item(items: &mut [u8], points: &mut [f64], at: &mut Written, item: Item)
+    requires { Room (buffers_of items.old points.old at.old) (item ∷ []) }
+    ensures { buffers_of items.new points.new at.new ≡ write_item (buffers_of items.old points.old at.old) item }
 {
     items[at.items] = byte_of(item);
-    let mut floats = at.floats;
+    at.items += 1;
     if let Item::Move(p) | Item::Line(p) = item {
-        points[floats] = p.x;
-        points[floats + 1] = p.y;
-        floats += 2;
-    }
-    Written {
-        items: at.items + 1,
-        floats,
+        points[at.floats] = p.x;
+        points[at.floats + 1] = p.y;
+        at.floats += 2;
     }
 }

@@ -1,4 +1,4 @@
--- What the sweep keeps: over a stick, along the sticks of a byte, and along a row.
+-- What the sweep keeps: over a stick, along the sticks of a byte, and along a row; and where it may begin.
 use mathlib.Core.Path.{◌≡◌, refl, ap, sym, ◌∙◌, subst}
 use mathlib.Core.Bool.{Bool, true, false, not, beq}
 use mathlib.Core.List.{List}
@@ -10,15 +10,16 @@ use Rattle.arith.proofs.Booleans.{beq-yes, beq-no}
 use Rattle.grid.specs.Layer.{Layer, bit, sample, stride}
 use Rattle.grid.specs.Edges.{is_stick, StickBits}
 use Rattle.grid.specs.Questions.{Sized, Sound}
+use Rattle.grid.specs.declared.edge.Edge.{Edge}
 use Rattle.grid.proofs.Numbers.{WithinGrid}
-use Rattle.step.proofs.Walks.{stick-within}
+use Rattle.step.proofs.Walks.{stick-within, stick-sample}
 use Rattle.contour.proofs.Bytes.{Left, left-start, left-found, left-shift, left-next, left-done}
 use Rattle.bitset.specs.Sets.{has, set_bits}
 use Rattle.contour.proofs.Scans.{place-below, horizontal-number}
 use Rattle.winding.specs.Turns.{east, contours_around}
-use Rattle.winding.proofs.Counts.{around-same, around-more, around-less, around-few}
+use Rattle.winding.proofs.Counts.{around-same, around-more, around-less, around-few, around-west}
 use Rattle.nesting.specs.Bores.{BoreSet}
-use Rattle.nesting.specs.Sweeps.{Swept, SweptAt}
+use Rattle.nesting.specs.Sweeps.{Counted, Swept, SweptAt}
 use Rattle.nesting.specs.declared.sweep.Sweep.{Sweep}
 
 module _ {L : Layer} (sound : Sound L) (r : ℕ) where
@@ -160,3 +161,23 @@ module _ {L : Layer} {w : Sweep} {end : ℕ} (swept : Swept L w end) where
   row_last past =
       let e : w.column ≡ end = omega (arith, swept.reach) in
       swept.counted ∙ ap (λ (k : ℕ). contours_around L k w.row) e
+
+-- Where a sweep to the west end of a stick may begin
+
+module _ {L : Layer} (sound : Sound L) (e : Edge) (stick : is_stick L e ≡ true) where
+  west : (e.column < L.size.width) × (e.row < L.size.height)
+  west = stick-sample L sound e.vertical e.column e.row stick
+
+  -- at the row's border, which no contour is around
+  pub from-border : {w : Sweep} → w ≡ record { row = e.row; column = 0; around = 0 } → Swept L w e.column
+  from-border is = rw is (record {
+    row_below = west.1;
+    reach = omega arith;
+    within = west.0;
+    counted = sym (around-west sound e.row west.1);
+  })
+
+  -- farther west in the row
+  pub from-west : {w at : Sweep} → w ≡ at → Counted L at → at.row ≡ e.row → at.column ≤ e.column → Swept L w e.column
+  from-west is counted row reach =
+      rw is (record { row_below = rw row west.1; reach = reach; within = west.0; counted = counted })

@@ -14,13 +14,13 @@ loop-left-init c = record {
 pub returns-then-at-zeros : goal.returns-then-at-zeros
 returns-then-at-zeros c =
     let lowest = c.lowest_bit-zeros.ensures in
-    byte_past c.loop-left.invariant.swept lowest.value lowest.upper_bound c.requires.bore_set.sound (omega arith)
+    byte_past c.loop-left.invariant.swept lowest.value lowest.upper_bound c.args.nesting.contours.layer.sound (omega arith)
 
-pub crossed-requires-clause-swept_at : goal.crossed-requires-clause-swept_at
-crossed-requires-clause-swept_at c =
+pub crossed-requires : goal.crossed-requires
+crossed-requires c =
     let at = c.loop-left.invariant in
     let lowest = c.lowest_bit-zeros.ensures in
-    rw at.in_row (byte-stick at.swept lowest.value lowest.upper_bound c.requires.bore_set.sound)
+    rw at.in_row (byte-stick at.swept lowest.value lowest.upper_bound c.args.nesting.contours.layer.sound)
 
 pub loop-left-smaller : goal.loop-left-smaller
 loop-left-smaller c =
@@ -37,4 +37,4 @@ loop-left-preserved c =
     }
 
 pub returns : goal.returns
-returns c = byte_last c.loop-left.invariant.swept c.requires.bore_set.sound c.loop-left-test.false
+returns c = byte_last c.loop-left.invariant.swept c.args.nesting.contours.layer.sound c.loop-left-test.false
