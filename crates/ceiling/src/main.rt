@@ -28,12 +28,8 @@ fn sticks_counted(answer: Counted) -> usize
     ensures { result ≡ (figures_of answer).sticks }
 {
     match answer {
-        Counted::Done {
-            inside: _,
-            sticks,
-            contours: _,
-        } => sticks,
-        Counted::Refused(_, _) => 0,
+        Counted::Done { sticks, .. } => sticks,
+        Counted::Refused(..) => 0,
     }
 }
 
@@ -42,8 +38,8 @@ fn runs_tried(answer: Simplified) -> usize
     ensures { result ≡ (outcome answer []).tried }
 {
     match answer {
-        Simplified::Done { removed: _, tried } => tried,
-        Simplified::Refused(_, _) => 0,
+        Simplified::Done { tried, .. } => tried,
+        Simplified::Refused(..) => 0,
     }
 }
 

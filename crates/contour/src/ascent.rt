@@ -8,13 +8,13 @@ use grid::{Edge, edge_in, kind_start};
 
 // Those with number `from` or above. First sticks are horizontal, so the search ends where the vertical edges begin.
 #[derive(Drop)]
-pub struct FirstSticks<'a> {
-    pub contours: ContourSet<'a>,
+pub struct FirstSticks<'l, 's> {
+    pub contours: ContourSet<'l, 's>,
     pub from: usize,
     pub ghost within: { from ≤ kind_start contours.layer.size true },
 }
 
-impl<'a> Iterator for FirstSticks<'a> {
+impl<'l, 's> Iterator for FirstSticks<'l, 's> {
     type Item = Edge;
 
     ghost use Rattle.std.specs.Iterator.{YieldsFirst, item_count};

@@ -7,8 +7,8 @@ use grid::Layer;
 
 // A layer and the set of its first sticks.
 #[derive(Clone, Copy)]
-pub struct ContourSet<'a> {
-    pub layer: Layer<'a>,
-    pub firsts: &'a EdgeSet,
+pub struct ContourSet<'l, 's> {
+    pub layer: Layer<'l>,
+    pub firsts: &'s EdgeSet,
     pub ghost first_set: { FirstSet (plain layer) firsts.now },
 }

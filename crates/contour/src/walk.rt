@@ -24,7 +24,7 @@ pub fn sticks_of<'a>(layer: Layer<'a>, first: Edge) -> ContourWalk<'a>
 }
 
 // The first sticks, in the order of the contours.
-pub fn firsts_of<'a>(contours: ContourSet<'a>) -> FirstSticks<'a>
+pub fn firsts_of<'l, 's>(contours: ContourSet<'l, 's>) -> FirstSticks<'l, 's>
     ensures { firsts_left result ≡ first_sticks (plain contours.entry.layer) }
 {
     FirstSticks { contours, from: 0 }

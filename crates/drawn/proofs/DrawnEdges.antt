@@ -16,7 +16,7 @@ use Rattle.grid.specs.Layer.{Layer}
 use Rattle.grid.specs.Edges.{is_stick, edge_at, edge_count}
 use Rattle.grid.specs.Questions.{Sound}
 use Rattle.grid.specs.declared.edge.Edge.{Edge}
-use Rattle.grid.specs.declared.question.Answer.TheVariants.{Yes}
+use Rattle.grid.specs.Questions.{Yes}
 use Rattle.grid.proofs.Numbers.{edge_at-within}
 use Rattle.step.specs.Walk.{next}
 use Rattle.step.proofs.Walks.{next-stick}

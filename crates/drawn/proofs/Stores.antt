@@ -12,7 +12,7 @@ use Rattle.grid.specs.Layer.{Layer}
 use Rattle.grid.specs.Edges.{is_stick, edge_count}
 use Rattle.grid.specs.Questions.{Sound}
 use Rattle.grid.specs.declared.edge.Edge.{Edge}
-use Rattle.grid.specs.declared.question.Answer.TheVariants.{Yes}
+use Rattle.grid.specs.Questions.{Yes}
 use Rattle.step.specs.Walk.{next, prev}
 use Rattle.contour.specs.Contours.{walk_of, same_edge}
 use Rattle.contour.proofs.Orbit.{unlike}

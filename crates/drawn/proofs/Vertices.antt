@@ -11,8 +11,8 @@ use Rattle.grid.specs.Layer.{Layer}
 use Rattle.grid.specs.Edges.{is_stick, in_grid, number, edge_count}
 use Rattle.grid.specs.Questions.{Sound}
 use Rattle.grid.specs.declared.edge.Edge.{Edge}
-use Rattle.grid.specs.declared.question.Refusal.TheVariants.{WrongEntry}
-use Rattle.grid.specs.declared.question.Answer.TheVariants.{Yes}
+use Rattle.grid.specs.declared.refusal.Refusal.TheVariants.{WrongEntry}
+use Rattle.grid.specs.Questions.{Yes}
 use Rattle.grid.proofs.Answers.{each_all}
 use Rattle.grid.proofs.Numbers.{number-below, edge_at-number}
 use Rattle.step.specs.Walk.{next}

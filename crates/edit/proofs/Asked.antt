@@ -1,9 +1,11 @@
 -- The questions put to one edit, each after those before it were answered yes.
 use mathlib.Core.Path.{◌≡◌, refl, sym, ◌∙◌, ap, subst}
+use mathlib.Core.Logic.{◌≢◌}
+use native.Mathlib.Omega.{arith}
 use mathlib.Core.Bool.{Bool, true, false, not, ◌&&◌}
 use mathlib.Core.List.{List, [], ◌∷◌}
-use Prim.Native.Nat.{ℕ, ◌≤◌, ◌<◌}
-use borrow.Author.Tests.{le-leb, lt-leb, not-true, not-false}
+use Prim.Native.Nat.{ℕ, ◌≤◌}
+use borrow.Author.Tests.{le-leb, not-true, not-false}
 use lib.Dec.{leb}
 use Rattle.arith.proofs.Booleans.{both-sides, and_split}
 use Rattle.arith.specs.Lists.{among}
@@ -112,6 +114,10 @@ module _ (L : Layer) (t : List ℕ) (s : Named) {b : Bool} (is : b ≡ names_pin
 pub good-offset : (o : ℕ) → 1 ≤ o → o ≤ 255 → good_offset o ≡ true
 good-offset o h k = rw (le-leb 1 o h, le-leb o 255 k)
 
+pub slidable : {L : Layer} {t : List ℕ} {s : Named} → NamedKept L t s → {e : Edge} → e ≡ edge_named s → {o : ℕ} → o ≢ 0 → o ≤ 255
+    → Slidable L t e o
+slidable k is {o} some fits = record { at = editable k is; offset = good-offset o (omega arith) fits }
+
 -- a slide
 
 module _ (L : Layer) (tolerance : ℕ) (t : List ℕ) (place : ℕ) (s : Named) (o : ℕ) where
@@ -159,9 +165,9 @@ module _ (tolerance place : ℕ) {L : Layer} {t : List ℕ} {s : Named} (k : Nam
   unfolding slide_answer
   slide-pinned pin = rw (k.kept, pin)
 
-  pub slide-bad : may_move L t s ≡ true → o < 1 → No BadOffset place ≡ slide_answer L tolerance t place s o
+  pub slide-bad : may_move L t s ≡ true → o ≡ 0 → No BadOffset place ≡ slide_answer L tolerance t place s o
   unfolding slide_answer
-  slide-bad unpinned h = rw (k.kept, unpinned, lt-leb 1 o h)
+  slide-bad unpinned h = rw (k.kept, unpinned, h)
 
   pub slide-asked : may_move L t s ≡ true → {x : Edge} → x ≡ edge_named s → Slidable L t x o → {a b : Chord} → a ≡ slid_into L t x o → b ≡ slid_out L t x o
       → chords_answer L t tolerance place a b ≡ slide_answer L tolerance t place s o

@@ -21,7 +21,7 @@ use Rattle.chord.specs.Runs.{NearEdge}
 use Rattle.chord.proofs.EdgePoints.{along-position}
 use Rattle.chord.proofs.Tests.{stick-near}
 use Rattle.table.specs.Vertices.{entry_at, kept_at, removed_at, offset_at}
-use Rattle.table.specs.Lent.{LentAt, HasEntry}
+use Rattle.table.specs.Lent.{HasEntry}
 use Rattle.table.proofs.Entries.{Inside, kept-on-stick}
 use Rattle.table.proofs.Lent.{has-entry}
 use Rattle.table.specs.Stores.{slid, without, pinned}
@@ -84,8 +84,8 @@ module _ {L : Layer} {t : List ℕ} {e : Edge} (k : Editable L t e) where
   v = vertices accepted
 
   -- what the code asks of it to walk to the kept one before or after
-  pub walk_from : LentAt L t e × (removed_at L t e ≡ false)
-  walk_from = (record { sound = sound; exact = accepted.exact; stick = d.stick }, kept-not-removed L t e d.kept)
+  pub not-removed : removed_at L t e ≡ false
+  not-removed = kept-not-removed L t e d.kept
 
   -- the sticks that are passed before and after it are not too many to count
   pub gaps-small : (length (gap_before L t e) ≤ 2095104) × (length (gap_after L t e) ≤ 2095104)

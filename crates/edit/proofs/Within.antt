@@ -1,5 +1,5 @@
 -- A chord against the vertices of the sticks that follow one; and a drawn edge's gap is such a run of sticks, for crossing and for sliding.
-use mathlib.Core.Path.{◌≡◌, refl, sym, ◌∙◌, ap}
+use mathlib.Core.Path.{◌≡◌, refl, sym, ◌∙◌, ap, subst}
 use mathlib.Core.Bool.{Bool, true, ◌&&◌}
 use mathlib.Core.List.{List}
 use Prim.Native.Nat.{ℕ, zero, suc}
@@ -27,6 +27,11 @@ pub within-start : (L : Layer) (t : List ℕ) (tolerance : ℕ) (p q : Position)
     → TestsLeft L (slides_at L t tolerance p q) (within_run L t tolerance p q e n) e n
 unfolding within_run
 within-start L t tolerance p q e n stick = record { stick = stick; same = refl }
+
+-- the same number of sticks left, counted in another way
+pub as-many : {L : Layer} {test : Edge → Bool} {answer : Bool} {at : Edge} {m n : ℕ} → TestsLeft L test answer at m → m ≡ n
+    → TestsLeft L test answer at n
+as-many {L} {test} {answer} {at} here e = subst (TestsLeft L test answer at) e here
 
 -- The redrawn edges are drawn on the table t' after the edit; the code reads the offsets of the table t before it, which are the same on the
 -- sticks that t' removes.

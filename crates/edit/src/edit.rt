@@ -54,7 +54,7 @@ fn ask_slide(
     if is_pinned {
         return Answer::No(Refusal::VertexPinned, place);
     }
-    if offset < 1 {
+    if offset == 0 {
         return Answer::No(Refusal::BadOffset, place);
     }
     let e = edge_named(stick);

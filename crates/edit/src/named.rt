@@ -31,10 +31,7 @@ fn in_grid(size: Size, e: Edge) -> bool
     requires { Sized size }
     ensures { result ≡ in_grid size e }
 {
-    if e.column < edge_columns(size, e.vertical) {
-        return e.row < edge_rows(size, e.vertical);
-    }
-    false
+    e.column < edge_columns(size, e.vertical) && e.row < edge_rows(size, e.vertical)
 }
 
 // Question 9.
@@ -42,14 +39,11 @@ pub fn carries_kept(size: Size, table: &[u16], stick: Named) -> bool
     requires { Exact size table.now }
     ensures { result ≡ names_kept size table.now stick }
 {
-    if 1 < stick.kind {
+    if stick.kind > 1 {
         return false;
     }
     let e = edge_named(stick);
-    if !in_grid(size, e) {
-        return false;
-    }
-    is_kept(entry_at(size, table, e))
+    in_grid(size, e) && is_kept(entry_at(size, table, e))
 }
 
 // Whether question 16, put after a yes to 9, is answered no: the vertex is pinned.

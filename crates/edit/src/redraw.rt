@@ -32,13 +32,11 @@ pub fn within_all(size: Size, bitmap: &[u8], table: &[u16], t: u8, c: Chord) -> 
     ensures { result ≡ within_chord (layer_of size bitmap.now) table.now t c }
 {
     let mut at = c.stick;
-    let mut left = c.gap;
-    while 0 < left {
+    for _ in 0..c.gap {
         at = next_stick(size, bitmap, at);
         if !slides_within(t, c.from, c.to, at, offset_in(entry_at(size, table, at))) {
             return false;
         }
-        left -= 1;
     }
     true
 }
@@ -49,20 +47,14 @@ pub fn crosses_both(size: Size, bitmap: &[u8], into: Chord, out: Chord) -> bool
     requires out_on { ChordOn (layer_of size bitmap.now) out }
     ensures { result ≡ (crosses_chord (layer_of size bitmap.now) into && crosses_chord (layer_of size bitmap.now) out) }
 {
-    if !crosses_all(size, bitmap, into) {
-        return false;
-    }
-    crosses_all(size, bitmap, out)
+    crosses_all(size, bitmap, into) && crosses_all(size, bitmap, out)
 }
 
 pub fn within_both(size: Size, bitmap: &[u8], table: &[u16], t: u8, into: Chord, out: Chord) -> bool
     requires { BothMeasurable (layer_of size bitmap.now) table.now into out }
     ensures { result ≡ (within_chord (layer_of size bitmap.now) table.now t into && within_chord (layer_of size bitmap.now) table.now t out) }
 {
-    if !within_all(size, bitmap, table, t, into) {
-        return false;
-    }
-    within_all(size, bitmap, table, t, out)
+    within_all(size, bitmap, table, t, into) && within_all(size, bitmap, table, t, out)
 }
 
 // The edge that ends at the vertex of e, once that vertex lies at another offset.

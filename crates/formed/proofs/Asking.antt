@@ -1,9 +1,10 @@
 -- Question 8 as the code asks it: along the vertices of one contour, and over all contours.
 use mathlib.Core.Path.{◌≡◌, refl, sym, ◌∙◌, ap}
-use mathlib.Core.Bool.{Bool, true, false, cond}
+use mathlib.Core.Bool.{true, false}
 use mathlib.Core.List.{List, [], ◌∷◌, ◌++◌, map, flatten}
 use Prim.Native.Nat.{ℕ, ◌+◌, ◌≤◌}
 use lib.ListN.{length}
+use Rattle.std.specs.Prelude.{Result, Ok, Err}
 use Rattle.grid.specs.Layer.{Layer}
 use Rattle.grid.specs.Edges.{is_stick, edge_count}
 use Rattle.step.specs.Walk.{next}
@@ -19,9 +20,9 @@ use Rattle.contour.specs.declared.cursor.Cursor.{Cursor}
 use Rattle.contour.proofs.Loop.{Due, start, due-one, due-next, rest_more, rest-last}
 use Rattle.contour.proofs.Sticks.{laws}
 use Rattle.contour.proofs.Cursors.{here-left, none_left}
-use Rattle.sheet.specs.Commands.{contour_command, end_command}
-use Rattle.formed.specs.Expected.{Expected, these, vertex_of, stands_at, vertex_at, expected_contour, commands_from}
-use Rattle.formed.specs.Asked.{expected_from, ContourAsked, CommandsAsked}
+use Rattle.sheet.specs.Commands.{end_command}
+use Rattle.formed.specs.Expected.{Expected, these, vertex_of, vertex_at, expected_contour, commands_from}
+use Rattle.formed.specs.Asked.{expected_from, ContourAsked, answer_after, CommandsAsked}
 use Rattle.formed.proofs.Bytes.{vertex-room}
 use Rattle.formed.proofs.Commands.{command-stands, command-wrong}
 use Rattle.formed.proofs.Contours.{from_cons}
@@ -43,7 +44,7 @@ module _ {L : Layer} {s : List ℕ} {f : Edge} {i : ℕ} where
     pub walking-stick : is_stick L e ≡ true
     walking-stick = due-one (walk_of L) (laws L sound) f e w.due
 
-    pub walking-no : vertex_at s at ≡ false → CommandsAsked s i (map vertex_of (contour_of L f)) false at
+    pub walking-no : vertex_at s at ≡ false → CommandsAsked s i (map vertex_of (contour_of L f)) (Err at)
     unfolding rest
     walking-no bad =
         let later_ones = path (walk_of L) (edge_count L.size) (next L e) f in
@@ -66,27 +67,12 @@ module _ {L : Layer} {s : List ℕ} {f : Edge} {i : ℕ} where
             still = passed (rest (walk_of L) e' f) (rest_more (walk_of L) (laws L sound) f e e' w.due step differ);
           }
 
-      pub walking-last : same_edge e' f ≡ true → CommandsAsked s i (map vertex_of (contour_of L f)) true (at + 2)
+      pub walking-last : same_edge e' f ≡ true → CommandsAsked s i (map vertex_of (contour_of L f)) (Ok (at + 2))
       walking-last same =
           record {
             within = vertex-room s at w.within good;
             says = passed [] (rest-last (walk_of L) (laws L sound) f e e' w.due step same);
           }
-
--- One contour
-
-module _ (L : Layer) (f : Edge) {s : List ℕ} {i : ℕ} where
-  pub contour-no : i ≤ length s → stands_at s i (contour_command f) ≡ false → CommandsAsked s i (expected_contour L f) false i
-  contour-no w bad =
-      record { within = w; says = λ later. command-wrong s i (these (contour_command f)) (map vertex_of (contour_of L f) ++ later) bad }
-
-  pub contour-asked : {all : Bool} {at : ℕ} → stands_at s i (contour_command f) ≡ true
-      → CommandsAsked s (i + 6) (map vertex_of (contour_of L f)) all at → CommandsAsked s i (expected_contour L f) all at
-  contour-asked good asked =
-      record {
-        within = asked.within;
-        says = λ later. command-stands s i (these (contour_command f)) (map vertex_of (contour_of L f) ++ later) good ∙ asked.says later;
-      }
 
 -- All contours: the answer for those from the cursor on, expected at `place`, is that for all
 
@@ -101,23 +87,23 @@ module _ {L : Layer} {s : List ℕ} {c : Cursor} where
       record { placed = o.placed; within = room; still = ap (λ (fs : List Edge). commands_from s 5 (expected_from L fs)) o.left }
 
   module _ {place : ℕ} (here : SheetAsked L s place c) where
-    module _ {all : Bool} {place' : ℕ} (asked : CommandsAsked s place (expected_contour L c.stick) all place') where
+    module _ {came : Result ℕ ℕ} (asked : CommandsAsked s place (expected_contour L c.stick) came) where
       -- the contour of the cursor, and those after it
       first-asked : (fs : List Edge) → left L c ≡ c.stick ∷ fs
-          → cond all (commands_from s place' (expected_from L fs)) (No Malformed place') ≡ commands_from s 5 (expected_from L (first_sticks L))
+          → answer_after s (expected_from L fs) came ≡ commands_from s 5 (expected_from L (first_sticks L))
       first-asked fs e =
           sym (asked.says (expected_from L fs))
           ∙ ap (commands_from s place) (sym (from_cons L c.stick fs))
           ∙ ap (λ (l : List Edge). commands_from s place (expected_from L l)) (sym e)
           ∙ here.still
 
-      pub sheet-no : {m : List ℕ} → FirstSet L m → c.more ≡ true → all ≡ false
-          → No Malformed place' ≡ commands_from s 5 (expected_from L (first_sticks L))
+      pub sheet-no : {m : List ℕ} {wrong : ℕ} → FirstSet L m → c.more ≡ true → came ≡ Err wrong
+          → No Malformed wrong ≡ commands_from s 5 (expected_from L (first_sticks L))
       sheet-no set more bad = rw bad at (first-asked (firsts_from (walk_of L) (c.number + 1)) (here-left set here.placed more))
 
-      pub sheet-next : all ≡ true → {c' : Cursor} → Moved L c c' → SheetAsked L s place' c'
+      pub sheet-next : {after : ℕ} → came ≡ Ok after → {c' : Cursor} → Moved L c c' → SheetAsked L s after c'
       sheet-next good {c'} m =
-          record { placed = m.placed; within = asked.within; still = rw good at (first-asked (left L c') m.left) }
+          record { placed = m.placed; within = rw good at asked.within; still = rw good at (first-asked (left L c') m.left) }
 
     pub sheet-end : {m : List ℕ} → FirstSet L m → c.more ≡ false
         → commands_from s place (these end_command ∷ []) ≡ commands_from s 5 (expected_from L (first_sticks L))

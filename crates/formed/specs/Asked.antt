@@ -1,12 +1,13 @@
 -- What the contracts of the asking code say: the places of commands, each of which is the sum of the widths of all that is expected before
 -- it, and how far the asking came.
-use Rattle.std.specs.Prelude.{◌≡◌, Bool, true, cond, ℕ, ◌+◌, ◌≤◌, length}
+use Rattle.std.specs.Prelude.{◌≡◌, true, ℕ, ◌+◌, ◌≤◌, length, Result, Ok, Err}
 use mathlib.Core.List.{List, [], ◌∷◌, ◌++◌, map, flatten}
 use Rattle.grid.specs.Layer.{Layer}
 use Rattle.grid.specs.Edges.{is_stick}
 use Rattle.grid.specs.Questions.{Sound}
 use Rattle.grid.specs.declared.edge.Edge.{Edge}
 use Rattle.grid.specs.declared.question.Refusal.TheVariants.{Malformed}
+use Rattle.grid.specs.declared.question.Answer.{Answer}
 use Rattle.grid.specs.declared.question.Answer.TheVariants.{No}
 use Rattle.sheet.specs.Commands.{end_command}
 use Rattle.formed.specs.Expected.{Expected, these, width, expected_contour, expected_sheet, commands_from}
@@ -26,11 +27,21 @@ pub record ContourAsked (L : Layer) (s : List ℕ) (f : Edge) (i : ℕ) : Type 0
   pub stick : is_stick L f ≡ true
   pub within : i ≤ length s
 
--- the expected commands xs, asked for from place i on: all of them stand, and the next is expected at `at`; or not all of them do, and the
--- first that does not is expected at `at`
-pub record CommandsAsked (s : List ℕ) (i : ℕ) (xs : List Expected) (all : Bool) (at : ℕ) : Type 0 where
-  pub within : at ≤ length s
-  pub says : (later : List Expected) → commands_from s i (xs ++ later) ≡ cond all (commands_from s at later) (No Malformed at)
+-- the place that the asking came to: after commands that stand, or that of the first that does not
+abbrev pub came_to : Result ℕ ℕ → ℕ
+came_to (Ok after) = after
+came_to (Err wrong) = wrong
+
+-- the answer for what is expected later, once the asking came so far
+abbrev pub answer_after : List ℕ → List Expected → Result ℕ ℕ → Answer
+answer_after s later (Ok after) = commands_from s after later
+answer_after s later (Err wrong) = No Malformed wrong
+
+-- the expected commands xs, asked for from place i on: all of them stand, and the next is expected at `Ok`; or not all of them do, and the
+-- first that does not is expected at `Err`
+pub record CommandsAsked (s : List ℕ) (i : ℕ) (xs : List Expected) (came : Result ℕ ℕ) : Type 0 where
+  pub within : came_to came ≤ length s
+  pub says : (later : List Expected) → commands_from s i (xs ++ later) ≡ answer_after s later came
 
 -- the contours of the first sticks fs, which are the last ones of the layer, are expected from place i on
 pub record ContoursExpected (L : Layer) (fs : List Edge) (i : ℕ) : Type 0 where

@@ -7,30 +7,29 @@ ghost use Rattle.sheet.specs.Commands.{end_command};
 ghost use Rattle.formed.specs.Expected.{these, vertex_of, expected_contour, commands_from, sheet_answer};
 ghost use Rattle.formed.specs.Asked.{expected_from, ContourAsked, CommandsAsked};
 
-use super::command::{has_contour, has_end, has_size, has_vertex};
+use super::command::{has_contour, has_size, has_vertex};
 use bitset::EdgeSet;
 use contour::{first_contour, next_contour, same_edge};
 use grid::{Answer, Edge, Refusal, Size};
 use sheet::{CONTOUR_BYTES, SIZE_BYTES, VERTEX_BYTES};
 use step::next_stick;
 
-// How far the asking came: whether all commands that were asked for stand, and the place after the last, or else of the first that does not.
-#[derive(Clone, Copy)]
-pub struct Progress {
-    pub all: bool,
-    pub at: usize,
-}
-
-// The vertices of the contour that starts at `first`.
-fn walk_vertices(size: Size, bitmap: &[u8], sheet: &[u8], i: usize, first: Edge) -> Progress
+// The vertices of the contour that starts at `first`: the place after them, or else of the first that does not stand.
+fn walk_vertices(
+    size: Size,
+    bitmap: &[u8],
+    sheet: &[u8],
+    i: usize,
+    first: Edge,
+) -> Result<usize, usize>
     requires { ContourAsked (layer_of size bitmap.now) sheet.now first i }
-    ensures { CommandsAsked sheet.now i (map vertex_of (contour_of (layer_of size bitmap.now) first)) result.all result.at }
+    ensures { CommandsAsked sheet.now i (map vertex_of (contour_of (layer_of size bitmap.now) first)) result }
 {
     let mut e = first;
     let mut at = i;
     loop {
         if !has_vertex(sheet, at) {
-            return Progress { all: false, at };
+            return Err(at);
         }
         at += VERTEX_BYTES;
         e = next_stick(size, bitmap, e);
@@ -38,16 +37,22 @@ fn walk_vertices(size: Size, bitmap: &[u8], sheet: &[u8], i: usize, first: Edge)
             break;
         }
     }
-    Progress { all: true, at }
+    Ok(at)
 }
 
-// The command that begins the contour of `first`, and its vertices.
-fn walk_contour(size: Size, bitmap: &[u8], sheet: &[u8], i: usize, first: Edge) -> Progress
+// The command that begins the contour of `first`, and its vertices: the place after them, or else of the first command that does not stand.
+fn walk_contour(
+    size: Size,
+    bitmap: &[u8],
+    sheet: &[u8],
+    i: usize,
+    first: Edge,
+) -> Result<usize, usize>
     requires { ContourAsked (layer_of size bitmap.now) sheet.now first i }
-    ensures { CommandsAsked sheet.now i (expected_contour (layer_of size bitmap.now) first) result.all result.at }
+    ensures { CommandsAsked sheet.now i (expected_contour (layer_of size bitmap.now) first) result }
 {
     if !has_contour(sheet, i, first) {
-        return Progress { all: false, at: i };
+        return Err(i);
     }
     walk_vertices(size, bitmap, sheet, i + CONTOUR_BYTES, first)
 }
@@ -57,14 +62,11 @@ fn ask_end(sheet: &[u8], i: usize) -> Answer
     requires { i ≤ length sheet.now }
     ensures { result ≡ commands_from sheet.now i (these end_command ∷ []) }
 {
-    if !has_end(sheet, i) {
-        return Answer::No(Refusal::Malformed, i);
+    match &sheet[i..] {
+        [b'E'] => Answer::Yes,
+        [b'E', ..] => Answer::No(Refusal::Malformed, i + 1),
+        _ => Answer::No(Refusal::Malformed, i),
     }
-    let after = i + 1;
-    if after == sheet.len() {
-        return Answer::Yes;
-    }
-    Answer::No(Refusal::Malformed, after)
 }
 
 // The contours in order, and the end.
@@ -76,11 +78,10 @@ fn ask_contours(size: Size, bitmap: &[u8], sheet: &[u8], set: &EdgeSet) -> Answe
     let mut place: usize = SIZE_BYTES;
     let mut at = first_contour(size, bitmap, set);
     while at.more {
-        let came = walk_contour(size, bitmap, sheet, place, at.stick);
-        place = came.at;
-        if !came.all {
-            return Answer::No(Refusal::Malformed, place);
-        }
+        place = match walk_contour(size, bitmap, sheet, place, at.stick) {
+            Ok(after) => after,
+            Err(wrong) => return Answer::No(Refusal::Malformed, wrong),
+        };
         at = next_contour(size, bitmap, set, at);
     }
     ask_end(sheet, place)

@@ -1,6 +1,6 @@
 -- Questions and their answers: how a search for the lowest place answers one, and what a yes says.
 use mathlib.Core.Path.{◌≡◌, refl, ap, sym, ◌∙◌}
-use mathlib.Core.Bool.{Bool, true, false}
+use mathlib.Core.Bool.{Bool, true, false, true≢false}
 use mathlib.Core.List.{List, [], ◌∷◌, ◌++◌}
 use Prim.Native.Nat.{ℕ, ◌+◌, ◌*◌, ◌≤◌, ◌<◌}
 use native.Mathlib.Omega.{arith}
@@ -12,13 +12,17 @@ use Rattle.arith.proofs.Booleans.{both-sides, and_split}
 use Rattle.arith.specs.Ranges.{least}
 use Rattle.arith.proofs.Ranges.{least-is, least-none, least_from-below}
 use Rattle.grid.specs.Layer.{Layer}
-use Rattle.std.specs.Prelude.{Err}
+use Rattle.std.specs.Prelude.{Err, Ok, is_err}
 use Rattle.grid.specs.Questions.{Answer, Yes, No, number_of, first_no, ask, ask_each, in_range, sides_answer, length_answer, spare_set, spare_answer, border_in, border_at, border_answer, layer_questions, Sized, Whole, Sound}
 use Rattle.grid.specs.declared.layer.Size.{Size}
 use Rattle.grid.specs.declared.refusal.Refusal.{Refusal}
 
 pub no-not-yes : (q : Refusal) (p : ℕ) → No q p ≡ Yes → ⊥
 no-not-yes q p e = let z : ◌≡◌ {A = ℕ} 0 1 = cc in omega arith
+
+pub yes-of : (a : Answer) → is_err a ≡ false → a ≡ Yes
+yes-of (Ok _) e = refl
+yes-of (Err n) e = absurd (true≢false e)
 
 -- the number of a refusal is not 0, which stands for done, and at most 16
 pub number-within : (q : Refusal) → (1 ≤ number_of q) × (number_of q ≤ 16)

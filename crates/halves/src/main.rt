@@ -37,37 +37,30 @@ fn moved(vertical: bool, old: u8, before: usize, after: usize) -> u8
 }
 
 // old is k, and v is k + 5/4.
-fn from_below(vertical: bool, k: usize) -> u8
+fn from_below(vertical: bool, k: u8) -> u8
     requires le_k { 1 ≤ k }
     requires k_bound { k ≤ 254 }
     ensures { result ≡ toward_middle k }
 {
-    moved(vertical, k as u8, k + 1, k + 2)
+    moved(vertical, k, k as usize + 1, k as usize + 2)
 }
 
 // old is k + 1, and v is k + 1 - 5/4.
-fn from_above(vertical: bool, k: usize) -> u8
+fn from_above(vertical: bool, k: u8) -> u8
     requires le_k { 1 ≤ k }
     requires k_bound { k ≤ 254 }
     ensures { result ≡ toward_middle k }
 {
-    moved(vertical, (k + 1) as u8, k, k - 1)
+    moved(vertical, k + 1, k as usize, k as usize - 1)
 }
 
-fn put(out: &impl Print, n: u8) -> io::Result<()> {
-    print!(out; " {n}")
-}
-
-fn write_line(out: &impl Print, k: usize) -> io::Result<()>
+fn write_line(out: &impl Print, k: u8) -> io::Result<()>
     requires le_k { 1 ≤ k }
     requires k_bound { k ≤ 254 }
 {
-    print!(out; "{k}.5")?;
-    put(out, from_below(false, k))?;
-    put(out, from_above(false, k))?;
-    put(out, from_below(true, k))?;
-    put(out, from_above(true, k))?;
-    println!(out; "")
+    let (below, above) = (from_below(false, k), from_above(false, k));
+    let (left, right) = (from_below(true, k), from_above(true, k));
+    println!(out; "{k}.5 {below} {above} {left} {right}")
 }
 
 fn main(rt: HostRuntime) -> io::Result<()> {

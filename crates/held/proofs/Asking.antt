@@ -10,23 +10,18 @@ use Rattle.arith.specs.Booleans.{as_number}
 use Rattle.arith.proofs.Lists.{among-most}
 use Rattle.arith.specs.Lists.{each, among}
 use Rattle.grid.specs.Layer.{Layer}
-use Rattle.grid.specs.Edges.{is_stick}
+use Rattle.grid.specs.Edges.{number}
 use Rattle.grid.specs.Questions.{first_no, Sound}
 use Rattle.grid.specs.declared.edge.Edge.{Edge}
-use Rattle.grid.specs.declared.question.Refusal.TheVariants.{NotHeld}
-use Rattle.grid.specs.declared.question.Answer.TheVariants.{Yes, No}
+use Rattle.grid.specs.declared.refusal.Refusal.TheVariants.{NotHeld}
+use Rattle.grid.specs.Questions.{Yes, No}
 use Rattle.grid.proofs.Numbers.{edges-small}
 use Rattle.grid.proofs.Answers.{append-all, append-yes, first_no-yes}
-use Rattle.step.specs.Walk.{next}
-use Rattle.contour.specs.Walk.{rest, firsts_from}
-use Rattle.contour.specs.Contours.{walk_of, contour_of, same_edge}
-use Rattle.contour.specs.Sets.{FirstSet}
-use Rattle.contour.specs.Cursors.{left, Placed, Opened, Moved}
-use Rattle.contour.specs.declared.cursor.Cursor.{Cursor}
+use Rattle.contour.specs.Contours.{walk_of, contour_of, first_sticks}
 use Rattle.contour.proofs.Orbit.{round}
-use Rattle.contour.proofs.Loop.{Due, start, due-one, due-next, rest_more, rest-last}
+use Rattle.contour.proofs.Laps.{OnLap, on_lap, due-stick, lap-turn}
+use Rattle.contour.proofs.Firsts.{FirstsLeft, firsts-start, firsts-turn}
 use Rattle.contour.proofs.Sticks.{laws}
-use Rattle.contour.proofs.Cursors.{here-number, here-left, none_left}
 use Rattle.table.specs.Entries.{length_questions, entries_answer}
 use Rattle.table.specs.Kept.{all_kept_answer}
 use Rattle.table.specs.Vertices.{kept_at}
@@ -63,12 +58,12 @@ module _ (L : Layer) (t : List ℕ) (x : Edge) (kept : ℕ) {kept' : ℕ} where
   pub done-none : kept_at L t x ≡ false → kept' ≡ kept → Done L t x kept kept'
   done-none k same = (cleared-none L t x k, omega (arith, same, ap as_number k))
 
--- a walk round the contour of f that stands at x: the kept vertices so far and those still to come are all of them, and what is still to be
--- asked decides whether all edges cross
-pub record Counted (L : Layer) (t : List ℕ) (f x : Edge) (kept : ℕ) : Type 0 where
-  pub due : Due (walk_of L) f x
-  pub in_all : kept + among (kept_at L t) (rest (walk_of L) x f) ≡ among (kept_at L t) (contour_of L f)
-  pub still : all_cross L t (rest (walk_of L) x f) ≡ all_cross L t (contour_of L f)
+-- along the contour of f: the kept vertices so far and those still to come are all of them, and what is still to be asked decides whether all
+-- edges cross
+pub record Counted (L : Layer) (t : List ℕ) (f : Edge) (left : List Edge) (kept : ℕ) : Type 0 where
+  pub lap : OnLap L f left
+  pub in_all : kept + among (kept_at L t) left ≡ among (kept_at L t) (contour_of L f)
+  pub still : all_cross L t left ≡ all_cross L t (contour_of L f)
 
 and-false : (a : Bool) → false ≡ (a && false)
 and-false true = refl
@@ -79,82 +74,76 @@ and-true true = refl
 and-true false = refl
 
 module _ {L : Layer} {t : List ℕ} {f : Edge} where
-  pub counted_start : LentAt L t f → Counted L t f f 0
-  counted_start given =
-      record { due = start (walk_of L) (laws L given.sound) f given.stick; in_all = omega arith; still = refl }
+  pub counted_start : LentAt L t f → {left : List Edge} → left ≡ contour_of L f → Counted L t f left 0
+  counted_start given e =
+      record { lap = on_lap given.sound given.stick e; in_all = omega (arith, ap (among (kept_at L t)) e); still = ap (all_cross L t) e }
 
-  module _ (sound : Sound L) {x : Edge} {kept : ℕ} (c : Counted L t f x kept) where
-    pub counted-stick : is_stick L x ≡ true
-    counted-stick = due-one (walk_of L) (laws L sound) f x c.due
+  module _ {left : List Edge} {kept : ℕ} (c : Counted L t f left kept) where
+    module _ (sound : Sound L) {x : Edge} {left' : List Edge} (next : left ≡ x ∷ left') where
+      pub counted-lent : LentAt L t f → LentAt L t x
+      counted-lent given = record { sound = sound; exact = given.exact; stick = due-stick sound c.lap next }
 
-    pub counted-lent : LentAt L t f → LentAt L t x
-    counted-lent given = record { sound = sound; exact = given.exact; stick = counted-stick }
+      pub counted-most : kept ≤ 2095104
+      counted-most =
+          omega (
+            arith,
+            c.in_all,
+            among-most (kept_at L t) (contour_of L f),
+            (round (walk_of L) (laws L sound) f c.lap.first).within,
+            edges-small L.size sound.whole.sized,
+          )
 
-    pub counted-most : kept ≤ 2095104
-    counted-most =
-        omega (
-          arith,
-          c.in_all,
-          among-most (kept_at L t) (contour_of L f),
-          (round (walk_of L) (laws L sound) f c.due.start_one).within,
-          edges-small L.size sound.whole.sized,
-        )
+      -- an edge that does not cross
+      pub counted-no : kept_at L t x ≡ true → edge_crosses L t x ≡ false → false ≡ held_contour L t f
+      unfolding held_contour
+      counted-no k bad =
+          let none : all_cross L t (x ∷ left') ≡ false = rw (k, bad) in
+          let all : all_cross L t (contour_of L f) ≡ false = sym c.still ∙ ap (all_cross L t) next ∙ none in
+          and-false (leb 3 (among (kept_at L t) (contour_of L f)))
+          ∙ ap (λ (b : Bool). leb 3 (among (kept_at L t) (contour_of L f)) && b) (sym all)
 
-    -- an edge that does not cross
-    pub counted-no : kept_at L t x ≡ true → edge_crosses L t x ≡ false → false ≡ held_contour L t f
-    unfolding held_contour rest
-    counted-no k bad =
-        let none : all_cross L t (rest (walk_of L) x f) ≡ false = rw (k, bad) in
-        let all : all_cross L t (contour_of L f) ≡ false = sym c.still ∙ none in
-        and-false (leb 3 (among (kept_at L t) (contour_of L f)))
-        ∙ ap (λ (b : Bool). leb 3 (among (kept_at L t) (contour_of L f)) && b) (sym all)
-
-    module _ {x' : Edge} {kept' : ℕ} (step : x' ≡ next L x) (yes : Cleared L t x) (more : kept' ≡ kept + as_number (kept_at L t x)) where
-      -- the walk goes on
-      pub counted-turn : same_edge x' f ≡ false → Counted L t f x' kept'
-      counted-turn s =
-          let left = rest_more (walk_of L) (laws L sound) f x x' c.due step s in
+      pub counted-turn : {kept' : ℕ} → Done L t x kept kept' → Counted L t f left' kept'
+      counted-turn done =
           record {
-            due = due-next (walk_of L) (laws L sound) f x x' c.due step;
-            in_all = omega (arith, more, c.in_all, ap (among (kept_at L t)) left);
-            still = sym (yes (rest (walk_of L) x' f)) ∙ sym (ap (all_cross L t) left) ∙ c.still;
+            lap = lap-turn sound c.lap next;
+            in_all = omega (arith, done.1, c.in_all, ap (among (kept_at L t)) next);
+            still = sym (done.0 left') ∙ sym (ap (all_cross L t) next) ∙ c.still;
           }
 
-      -- it is back
-      pub counted-last : same_edge x' f ≡ true → leb 3 kept' ≡ held_contour L t f
-      unfolding held_contour
-      counted-last s =
-          let left = rest-last (walk_of L) (laws L sound) f x x' c.due step s in
-          let all : kept' ≡ among (kept_at L t) (contour_of L f) = omega (arith, more, c.in_all, ap (among (kept_at L t)) left) in
-          let held : all_cross L t (contour_of L f) ≡ true = sym c.still ∙ ap (all_cross L t) left ∙ yes [] in
-          ap (leb 3) all ∙ and-true (leb 3 (among (kept_at L t) (contour_of L f)))
-          ∙ ap (λ (b : Bool). leb 3 (among (kept_at L t) (contour_of L f)) && b) (sym held)
+    -- none is left
+    pub counted-end : left ≡ [] → leb 3 kept ≡ held_contour L t f
+    unfolding held_contour
+    counted-end over =
+        let all : kept ≡ among (kept_at L t) (contour_of L f) = omega (arith, c.in_all, ap (among (kept_at L t)) over) in
+        let held : all_cross L t (contour_of L f) ≡ true = sym c.still ∙ ap (all_cross L t) over in
+        ap (leb 3) all ∙ and-true (leb 3 (among (kept_at L t) (contour_of L f)))
+        ∙ ap (λ (b : Bool). leb 3 (among (kept_at L t) (contour_of L f)) && b) (sym held)
 
--- All contours: the first that is not held, of those from the cursor on, is the first of all
+-- All contours: the first that is not held, of those that are left, is the first of all
 
-pub record Asked (L : Layer) (t : List ℕ) (c : Cursor) : Type 0 where
-  pub placed : Placed L c
-  pub still : first_unheld L t (left L c) ≡ held_answer L t
+pub record Asked (L : Layer) (t : List ℕ) (left : List Edge) : Type 0 where
+  pub firsts : FirstsLeft L left
+  pub still : first_unheld L t left ≡ held_answer L t
 
-module _ {L : Layer} {t : List ℕ} {c : Cursor} where
-  pub ask-start : Opened L c → Asked L t c
+module _ {L : Layer} {t : List ℕ} {left : List Edge} where
+  pub ask-start : left ≡ first_sticks L → Asked L t left
   unfolding held_answer
-  ask-start o = record { placed = o.placed; still = ap (first_unheld L t) o.left }
+  ask-start e = record { firsts = firsts-start L e; still = ap (first_unheld L t) e }
 
-  pub ask-next : {c' : Cursor} → Asked L t c → held_contour L t c.stick ≡ true → Moved L c c' → Asked L t c'
-  ask-next {c'} a is_held_lem m =
-      let later : first_unheld L t (left L c') ≡ first_unheld L t (c.stick ∷ left L c') = rw is_held_lem in
-      record { placed = m.placed; still = later ∙ sym (ap (first_unheld L t) m.left) ∙ a.still }
+  module _ (a : Asked L t left) where
+    module _ {f : Edge} {left' : List Edge} (next : left ≡ f ∷ left') where
+      pub ask-next : held_contour L t f ≡ true → Asked L t left'
+      ask-next held =
+          let later : first_unheld L t left' ≡ first_unheld L t (f ∷ left') = rw held in
+          record { firsts = firsts-turn a.firsts next; still = later ∙ sym (ap (first_unheld L t) next) ∙ a.still }
 
-  module _ {s : List ℕ} (set : FirstSet L s) (a : Asked L t c) where
-    pub ask-no : c.more ≡ true → held_contour L t c.stick ≡ false → No NotHeld c.number ≡ held_answer L t
-    ask-no more missed =
-        let later = firsts_from (walk_of L) (c.number + 1) in
-        let first : No NotHeld c.number ≡ first_unheld L t (c.stick ∷ later) = rw missed (ap (No NotHeld) (sym (here-number set a.placed more))) in
-        first ∙ sym (ap (first_unheld L t) (here-left set a.placed more)) ∙ a.still
+      pub ask-no : held_contour L t f ≡ false → No NotHeld (number L.size f) ≡ held_answer L t
+      ask-no missed =
+          let first : No NotHeld (number L.size f) ≡ first_unheld L t (f ∷ left') = rw missed in
+          first ∙ sym (ap (first_unheld L t) next) ∙ a.still
 
-    pub ask-end : c.more ≡ false → Yes ≡ held_answer L t
-    ask-end over = sym (ap (first_unheld L t) (none_left set a.placed over)) ∙ a.still
+    pub ask-end : left ≡ [] → Yes ≡ held_answer L t
+    ask-end over = sym (ap (first_unheld L t) over) ∙ a.still
 
 -- What a yes to questions 1 to 6 says, and to 1 to 7
 

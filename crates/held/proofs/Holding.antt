@@ -13,7 +13,7 @@ use Rattle.grid.specs.Layer.{Layer}
 use Rattle.grid.specs.Edges.{is_stick, edge_count}
 use Rattle.grid.specs.Questions.{first_no, Sound}
 use Rattle.grid.specs.declared.edge.Edge.{Edge}
-use Rattle.grid.specs.declared.question.Answer.TheVariants.{Yes}
+use Rattle.grid.specs.Questions.{Yes}
 use Rattle.contour.specs.Walk.{first, occurrences, OnContour}
 use Rattle.contour.specs.Contours.{walk_of, contour_of, first_sticks}
 use Rattle.contour.proofs.First.{first_one}

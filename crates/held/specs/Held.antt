@@ -4,9 +4,9 @@ use Rattle.arith.specs.Lists.{each, among}
 use Rattle.grid.specs.Layer.{Layer}
 use Rattle.grid.specs.Edges.{number}
 use Rattle.grid.specs.declared.edge.Edge.{Edge}
-use Rattle.grid.specs.declared.question.Refusal.TheVariants.{NotHeld}
-use Rattle.grid.specs.declared.question.Answer.{Answer}
-use Rattle.grid.specs.declared.question.Answer.TheVariants.{Yes, No}
+use Rattle.grid.specs.declared.refusal.Refusal.TheVariants.{NotHeld}
+use Rattle.grid.specs.Questions.{Answer}
+use Rattle.grid.specs.Questions.{Yes, No}
 use Rattle.contour.specs.Contours.{contour_of, first_sticks, walk_of}
 use Rattle.contour.specs.Walk.{first}
 use Rattle.chord.specs.Points.{Crosses}

@@ -3,8 +3,8 @@ use Rattle.std.specs.Prelude.{◌≡◌, List, [], ◌∷◌, ◌++◌, ℕ, len
 use Rattle.grid.specs.Layer.{Layer}
 use Rattle.grid.specs.Edges.{edge_count}
 use Rattle.grid.specs.Questions.{Sound}
-use Rattle.grid.specs.declared.question.Answer.{Answer}
-use Rattle.grid.specs.declared.question.Answer.TheVariants.{Yes}
+use Rattle.grid.specs.Questions.{Answer}
+use Rattle.grid.specs.Questions.{Yes}
 use Rattle.table.specs.Entries.{length_questions, entries_answer}
 use Rattle.table.specs.Kept.{all_kept_answer}
 use Rattle.held.specs.Held.{held_answer}

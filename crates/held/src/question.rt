@@ -1,8 +1,8 @@
 // Question 7, questions 1 to 7 in order, and 15 after them.
 ghost use Rattle.std.specs.Prelude.{◌≡◌, [], ◌∷◌};
 ghost use Rattle.grid.specs.Layer.{layer_of};
-ghost use Rattle.grid.specs.Questions.{first_no};
-ghost use Rattle.grid.specs.declared.question.Answer.TheVariants.{Yes};
+ghost use Rattle.grid.specs.Questions.{first_no, Yes};
+ghost use Rattle.grid.specs.Plain.{plain};
 ghost use Rattle.bitset.specs.Sets.{Empty};
 ghost use Rattle.contour.specs.Sets.{FirstSet};
 ghost use Rattle.table.specs.Entries.{entries_answer};
@@ -13,41 +13,34 @@ ghost use Rattle.held.specs.Questions.{entry_questions, held_questions, kept_que
 
 use super::walk::held_contour;
 use bitset::{EdgeSet, WORDS};
-use contour::{first_contour, first_sticks, next_contour};
-use grid::{Answer, Refusal, Size};
+use contour::{ContourSet, first_sticks, firsts_of};
+use grid::{Answer, Layer, Refusal, Size, number_of};
+use table::{ask_all_kept, ask_entries, ask_lengths};
 
-// Question 7, from the set of first sticks.
-fn ask_contours(size: Size, bitmap: &[u8], table: &[u16], set: &EdgeSet) -> Answer
-    requires lent { Lent (layer_of size bitmap.now) table.now }
-    requires first_set { FirstSet (layer_of size bitmap.now) set.now }
-    ensures { result ≡ held_answer (layer_of size bitmap.now) table.now }
+// Question 7.
+fn ask_contours(contours: ContourSet, table: &[u16]) -> Answer
+    requires { Lent (plain contours.layer) table.now }
+    ensures { result ≡ held_answer (plain contours.entry.layer) table.now }
 {
-    let mut at = first_contour(size, bitmap, set);
-    while at.more {
-        if !held_contour(size, bitmap, table, at.stick) {
-            return Answer::No(Refusal::NotHeld, at.number);
+    for first in firsts_of(contours) {
+        if !held_contour(contours.layer, table, first) {
+            return Err(Refusal::NotHeld.at(number_of(contours.layer.size, first)));
         }
-        at = next_contour(size, bitmap, set, at);
     }
-    Answer::Yes
+    Ok(())
 }
 
 // Questions 7 and 15, of a layer that passed 1 to 6. Where nothing is removed every drawn edge is a single link, so the layer is held: the
 // walk for question 7 is made only if 15 is answered no.
-fn ask_kept(size: Size, bitmap: &[u8], table: &[u16], set: &EdgeSet) -> Answer
-    requires lent { Lent (layer_of size bitmap.now) table.now }
-    requires entries_right { entries_answer (layer_of size bitmap.now) table.now ≡ Yes }
-    requires first_set { FirstSet (layer_of size bitmap.now) set.now }
-    ensures { result ≡ first_no (held_answer (layer_of size bitmap.now) table.now ∷ all_kept_answer size table.now ∷ []) }
+fn ask_kept(contours: ContourSet, table: &[u16]) -> Answer
+    requires lent { Lent (plain contours.layer) table.now }
+    requires entries_right { entries_answer (plain contours.layer) table.now ≡ Yes }
+    ensures { result ≡ first_no (held_answer (plain contours.entry.layer) table.now ∷ all_kept_answer contours.entry.layer.size table.now ∷ []) }
 {
-    let kept = table::ask_all_kept(size, table);
-    if let Answer::Yes = kept {
-        return kept;
+    let kept = ask_all_kept(contours.layer.size, table);
+    if kept.is_err() {
+        ask_contours(contours, table)?;
     }
-    let held = ask_contours(size, bitmap, table, set);
-    let Answer::Yes = held else {
-        return held;
-    };
     kept
 }
 
@@ -55,11 +48,8 @@ fn ask_kept(size: Size, bitmap: &[u8], table: &[u16], set: &EdgeSet) -> Answer
 fn ask_six(size: Size, bitmap: &[u8], table: &[u16]) -> Answer
     ensures { result ≡ first_no (entry_questions (layer_of size bitmap.now) table.now) }
 {
-    let lengths = table::ask_lengths(size, bitmap, table.len());
-    let Answer::Yes = lengths else {
-        return lengths;
-    };
-    table::ask_entries(size, bitmap, table)
+    ask_lengths(size, bitmap, table.len())?;
+    ask_entries(Layer { size, bitmap }, table)
 }
 
 // Questions 1 to 7. Where all are answered yes, the set is that of the first sticks, for what the call does next.
@@ -68,12 +58,10 @@ pub fn ask_held_firsts(size: Size, bitmap: &[u8], table: &[u16], set: &mut EdgeS
     ensures value { result ≡ first_no (held_questions (layer_of size bitmap.now) table.now) }
     ensures first_set { result ≡ Yes → FirstSet (layer_of size bitmap.now) set.new }
 {
-    let six = ask_six(size, bitmap, table);
-    let Answer::Yes = six else {
-        return six;
-    };
-    first_sticks(size, bitmap, set);
-    ask_contours(size, bitmap, table, set)
+    ask_six(size, bitmap, table)?;
+    let layer = Layer { size, bitmap };
+    first_sticks(layer, set);
+    ask_contours(ContourSet { layer, firsts: set }, table)
 }
 
 // Questions 1 to 7 and 15, likewise.
@@ -82,12 +70,10 @@ pub fn ask_kept_firsts(size: Size, bitmap: &[u8], table: &[u16], set: &mut EdgeS
     ensures value { result ≡ first_no (kept_questions (layer_of size bitmap.now) table.now) }
     ensures first_set { result ≡ Yes → FirstSet (layer_of size bitmap.now) set.new }
 {
-    let six = ask_six(size, bitmap, table);
-    let Answer::Yes = six else {
-        return six;
-    };
-    first_sticks(size, bitmap, set);
-    ask_kept(size, bitmap, table, set)
+    ask_six(size, bitmap, table)?;
+    let layer = Layer { size, bitmap };
+    first_sticks(layer, set);
+    ask_kept(ContourSet { layer, firsts: set }, table)
 }
 
 // Questions 1 to 7, for a call that needs no set.

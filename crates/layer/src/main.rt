@@ -35,6 +35,6 @@ fn main(rt: HostRuntime) -> io::Result<()> {
     let mut input = [0u8; INPUT_LIMIT];
     let mut output = [0u8; ANSWER_LIMIT];
     let got = read_full(&mut rt.stdin(), &mut input)?;
-    let n = slicing::slice(&input[0..got], &mut output);
-    rt.write_all(&output[0..n])
+    let n = slicing::slice(&input[..got], &mut output);
+    rt.write_all(&output[..n])
 }

@@ -1,34 +1,25 @@
 // The new offset of one vertex, from signed differences of coordinates: products of them, and one division, rounded to the nearest whole
 // number with its exact meaning on both sides of zero.
-ghost use Rattle.std.specs.Prelude.{◌≡◌, ◌^◌, ◌≤◌, pos, nat_abs};
-ghost use Rattle.arith.specs.Nearest.{floor_div, nearest_to};
+ghost use Rattle.std.specs.Prelude.{◌≡◌, ◌^◌, ◌≤◌, nat_abs};
+ghost use Rattle.arith.specs.Nearest.{nearest_to};
 ghost use Rattle.chord.specs.Runs.{Near, NearEdge};
-ghost use Rattle.offset.specs.Offset.{middle, rounded, Divisible, spread, shift, signed_by, new_offset, Movable};
+ghost use Rattle.offset.specs.Offset.{middle, rounded, Divisible, spread, shift, new_offset, Movable};
 
 use chord::{Position, across_of, along_of, base_of, line_of, signed};
 use grid::Edge;
 
-// t / m for an m above 0, rounded down.
-fn floor_div(t: i64, m: i64) -> i64
-    requires { Divisible t m (2 ^ 44) (2 ^ 44) }
-    ensures value { result ≡ floor_div t (nat_abs m) }
-    ensures result_bound { nat_abs result ≤ 2 ^ 44 }
-{
-    if t >= 0 { t / m } else { 0 - (m - 1 - t) / m }
-}
-
 // The offset toward which a half goes.
 const MIDDLE: i64 = 128;
 
-// n / d for a d above 0, rounded to the nearest whole number, a half toward MIDDLE: n / d + 1/2 rounded down; above MIDDLE, where a half goes
-// down, 1/(2d) less.
+// n / d for a d above 0, rounded to the nearest whole number, a half toward MIDDLE: n / d + 1/2 rounded down, as `div_euclid` does by a number
+// above 0; above MIDDLE, where a half goes down, 1/(2d) less.
 fn nearest_div(n: i64, d: i64) -> i64
     requires { Divisible n d (2 ^ 42) (2 ^ 42) }
     ensures value { result ≡ nearest_to middle n (nat_abs d) }
     ensures result_bound { nat_abs result ≤ 2 ^ 44 }
 {
-    let less = if n > MIDDLE * d { 1 } else { 0 };
-    floor_div(2 * n + d - less, 2 * d)
+    let less = i64::from(n > MIDDLE * d);
+    (2 * n + d - less).div_euclid(2 * d)
 }
 
 // How far q is from p across the line of e, with its sign.
@@ -56,24 +47,6 @@ fn shift_of(p: Position, q: Position, e: Edge, old: u8) -> i64
     ahead * spread_of(p, q, e) + turn * before
 }
 
-// |d|, and n or, if d is below 0, -n: the fraction n / d with a denominator that is not below 0.
-fn size_of(d: i64) -> i64
-    requires { nat_abs d ≤ 524288 }
-    ensures value { result ≡ pos (nat_abs d) }
-    ensures result_bound { nat_abs result ≤ 524288 }
-{
-    if d < 0 { 0 - d } else { d }
-}
-
-fn signed_by(n: i64, d: i64) -> i64
-    requires n_bound { nat_abs n ≤ 2 ^ 40 }
-    requires d_bound { nat_abs d ≤ 524288 }
-    ensures value { result ≡ signed_by n d }
-    ensures result_bound { nat_abs result ≤ 2 ^ 40 }
-{
-    if d < 0 { 0 - n } else { n }
-}
-
 // old + 2/5 of n / d, rounded.
 fn rounded_of(old: u8, n: i64, d: i64) -> i64
     requires { Divisible n d (2 ^ 40) 524288 }
@@ -90,5 +63,5 @@ pub fn new_offset(p: Position, q: Position, e: Edge, old: u8) -> u8
 {
     let d = spread_of(p, q, e);
     let n = shift_of(p, q, e, old);
-    rounded_of(old, signed_by(n, d), size_of(d)) as u8
+    rounded_of(old, n * d.signum(), d.abs()) as u8
 }

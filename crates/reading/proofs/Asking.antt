@@ -1,12 +1,12 @@
 -- Question 7 as the code asks it of a sheet: from a kept vertex on to the next one, along a contour, and over all contours.
 use mathlib.Core.Path.{◌≡◌, sym, ◌∙◌}
-use mathlib.Core.Bool.{true, false, false≢true}
+use mathlib.Core.Bool.{true, false}
 use mathlib.Core.List.{List}
-use Prim.Native.Nat.{ℕ, ◌+◌, ◌<◌}
-use borrow.Author.Tests.{eq-eqb, ne_eqb}
-use lib.Dec.{leb}
+use Prim.Native.Nat.{ℕ, ◌+◌, ◌≤◌, ◌<◌}
+use borrow.Author.Tests.{eq-eqb, ne_eqb, le-leb, lt-leb}
 use lib.ListN.{get_or}
 use Rattle.arith.specs.Booleans.{as_number}
+use Rattle.std.specs.Prelude.{Some, None}
 use Rattle.grid.specs.Layer.{Layer}
 use Rattle.grid.specs.Edges.{is_stick, edge_count}
 use Rattle.grid.specs.Questions.{Sound}
@@ -28,7 +28,6 @@ use Rattle.formed.proofs.Contours.{expected-start, expected-next, expected-here}
 use Rattle.reading.specs.Reading.{described}
 use Rattle.reading.specs.Places.{VertexExpected, VertexAfter, VerticesStand, EndsAt, ContourChecked}
 use Rattle.reading.specs.declared.holding.Vertex.{Vertex}
-use Rattle.reading.specs.declared.holding.Checked.{Checked}
 use Rattle.reading.proofs.Described.{described-length}
 use Rattle.reading.proofs.Vertices.{first-expected, vertex-stick, vertex-more, vertex-last, removed-is, vertices-stand}
 
@@ -81,9 +80,8 @@ module _ {L : Layer} {s : List ℕ} {first : Vertex} where
       }
 
   module _ (sound : Sound L) {v : Vertex} {kept : ℕ} (here : CountedAt L s first v kept) where
-    pub at-no : {place : ℕ} → kept_at L (described L s) v.stick ≡ true → edge_crosses L (described L s) v.stick ≡ false
-        → ContourChecked L s first (record { held = false; end = place })
-    at-no is-kept missed = record { held = counted-no sound here.counted is-kept missed; end = λ y. absurd (false≢true y) }
+    pub at-no : kept_at L (described L s) v.stick ≡ true → edge_crosses L (described L s) v.stick ≡ false → ContourChecked L s first None
+    at-no is-kept missed = record { held = counted-no sound here.counted is-kept missed; after = tt }
 
     -- the work on v is done, and the walk goes on, or is back
     module _ {e : Edge} {kept' : ℕ} (step : e ≡ next L v.stick) (yes : Cleared L (described L s) v.stick)
@@ -95,12 +93,16 @@ module _ {L : Layer} {s : List ℕ} {first : Vertex} where
             expected = vertex-more sound here.expected step differ;
           }
 
-      pub at_last : same_edge e first.stick ≡ true → ContourChecked L s first (record { held = leb 3 kept'; end = v.place + 2 })
-      at_last back =
-          record {
-            held = counted-last sound here.counted step yes more back;
-            end = λ y. vertex-last sound here.expected step back;
-          }
+      module _ (back : same_edge e first.stick ≡ true) where
+        pub at-held : 3 ≤ kept' → ContourChecked L s first (Some (v.place + 2))
+        at-held enough =
+            record {
+              held = sym (le-leb 3 kept' enough) ∙ counted-last sound here.counted step yes more back;
+              after = vertex-last sound here.expected step back;
+            }
+
+        pub at-few : kept' < 3 → ContourChecked L s first None
+        at-few few = record { held = sym (lt-leb 3 kept' few) ∙ counted-last sound here.counted step yes more back; after = tt }
 
 -- All contours: those from the cursor on are expected from `place` on, and the first of them that is not held is the first of all
 
@@ -120,10 +122,10 @@ module _ {L : Layer} {s : List ℕ} {c : Cursor} where
         let placed = here.asked.placed in
         vertices-stand (expected-here here.expected set placed more) s yes-8 set.sound (here-stick set placed more)
 
-    pub asked-next : {r : Checked} → ContourChecked L s (record { stick = c.stick; place = place + 6 }) r → r.held ≡ true
-        → {c' : Cursor} → Moved L c c' → AskedFrom L s r.end c'
-    asked-next checked is_held_lem m =
+    pub asked-next : {end : ℕ} → ContourChecked L s (record { stick = c.stick; place = place + 6 }) (Some end)
+        → {c' : Cursor} → Moved L c c' → AskedFrom L s end c'
+    asked-next checked m =
         record {
-          asked = ask-next here.asked (sym checked.held ∙ is_held_lem) m;
-          expected = rw (checked.end is_held_lem) (expected-next here.expected m);
+          asked = ask-next here.asked (sym checked.held) m;
+          expected = rw checked.after (expected-next here.expected m);
         }

@@ -1,5 +1,6 @@
 -- Where the vertices of a contour stand, for the contracts of the reading code, and what is stored and answered on the way.
-use Rattle.std.specs.Prelude.{◌≡◌, true, ℕ, ◌+◌, ◌*◌, ◌≤◌, ◌<◌, length, get_or}
+use Rattle.std.specs.Prelude.{◌≡◌, true, ℕ, ◌+◌, ◌*◌, ◌≤◌, ◌<◌, length, get_or, Option, IfSome}
+use Rattle.std.specs.Option.{is_some}
 use mathlib.Core.List.{List, [], ◌∷◌, foldl}
 use Rattle.grid.specs.Layer.{Layer}
 use Rattle.grid.specs.Edges.{number, is_stick}
@@ -16,7 +17,6 @@ use Rattle.formed.specs.Expected.{vertex_of, is_at, sheet_answer}
 use Rattle.reading.specs.Reading.{entry_from, Reading, take_command, described, Outcome}
 use Rattle.reading.specs.declared.holding.Vertex.{Vertex}
 use Rattle.reading.specs.declared.holding.EdgeEnd.{EdgeEnd}
-use Rattle.reading.specs.declared.holding.Checked.{Checked}
 
 -- the vertices of a contour are expected from that of its first stick on, and v is among them
 pub record VertexExpected (L : Layer) (first v : Vertex) : Type 0 where
@@ -47,9 +47,9 @@ pub record EndsAt (L : Layer) (s : List ℕ) (first v : Vertex) (end : EdgeEnd) 
   pub expected : VertexExpected L first end.vertex
 
 -- whether the contour is held, and if it is the place after its vertices
-pub record ContourChecked (L : Layer) (s : List ℕ) (first : Vertex) (c : Checked) : Type 0 where
-  pub held : c.held ≡ held_contour L (described L s) first.stick
-  pub end : c.held ≡ true → c.end ≡ first.place + 2 * length (contour_of L first.stick)
+pub record ContourChecked (L : Layer) (s : List ℕ) (first : Vertex) (end : Option ℕ) : Type 0 where
+  pub held : is_some end ≡ held_contour L (described L s) first.stick
+  pub after : IfSome end (λ place. place ≡ first.place + 2 * length (contour_of L first.stick))
 
 -- reading partway, at place i with the table t so far
 abbrev pub reading_at : ℕ → List ℕ → Reading

@@ -1,6 +1,5 @@
 // The table of the layer that a sheet describes, where the sheet passed 8: 0 everywhere, then each stick's entry from its command.
 ghost use Rattle.std.specs.Prelude.{◌≡◌, ◌+◌, ◌*◌, ◌≤◌, length};
-ghost use Rattle.arith.specs.Ranges.{fill};
 ghost use Rattle.grid.specs.Layer.{layer_of};
 ghost use Rattle.grid.specs.Edges.{edge_count};
 ghost use Rattle.grid.specs.declared.question.Answer.TheVariants.{Yes};
@@ -17,17 +16,6 @@ use grid::{Edge, Size};
 use sheet::{CONTOUR_BYTES, SIZE_BYTES, VERTEX_BYTES};
 use step::next_stick;
 use table::Entry;
-
-// Puts 0 in every entry.
-fn clear(table: &mut [u16])
-    ensures { table.new ≡ fill (λ k. 0) 0 (length table.old) table.old }
-{
-    let mut k = 0;
-    while k < table.len() {
-        table[k] = 0;
-        k += 1;
-    }
-}
 
 // The entry that the vertex command at i gives its stick.
 pub fn entry_from(sheet: &[u8], i: usize) -> Entry
@@ -92,6 +80,6 @@ pub fn fill_table(size: Size, bitmap: &[u8], table: &mut [u16], sheet: &[u8], se
     requires table_len { length table.old ≡ edge_count size }
     ensures { table.new ≡ described (layer_of size bitmap.now) sheet.now }
 {
-    clear(table);
+    table.fill(0);
     store_contours(size, bitmap, table, sheet, set);
 }

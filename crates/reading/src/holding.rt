@@ -28,15 +28,7 @@ pub struct Vertex {
     pub place: usize,
 }
 
-// The place of the vertex after the one at `place`: where the walk is back, that is the contour's first vertex, at `start`.
-fn place_after(start: usize, place: usize, back: bool) -> usize
-    requires { place + 2 < 2 ^ 64 }
-    ensures { result ≡ cond back start (place + 2) }
-{
-    if back { start } else { place + VERTEX_BYTES }
-}
-
-// The vertex after v, on the contour that starts at `first`.
+// The vertex after v, on the contour that starts at `first`: where the walk is back, that is `first`.
 fn vertex_after(size: Size, bitmap: &[u8], first: Vertex, v: Vertex) -> Vertex
     requires sound { Sound (layer_of size bitmap.now) }
     requires vertex_expected { VertexExpected (layer_of size bitmap.now) first v }
@@ -44,7 +36,11 @@ fn vertex_after(size: Size, bitmap: &[u8], first: Vertex, v: Vertex) -> Vertex
     ensures { VertexAfter (layer_of size bitmap.now) first v result }
 {
     let stick = next_stick(size, bitmap, v.stick);
-    let place = place_after(first.place, v.place, same_edge(stick, first.stick));
+    let place = if same_edge(stick, first.stick) {
+        first.place
+    } else {
+        v.place + VERTEX_BYTES
+    };
     Vertex { stick, place }
 }
 
@@ -66,8 +62,7 @@ fn kept_after(size: Size, bitmap: &[u8], sheet: &[u8], first: Vertex, v: Vertex)
     let mut gap: usize = 0;
     loop {
         at = vertex_after(size, bitmap, first, at);
-        let place = at.place;
-        if sheet[place] != b'R' {
+        if sheet[at.place] != b'R' {
             break;
         }
         gap += 1;
@@ -98,45 +93,30 @@ fn held_edge(size: Size, bitmap: &[u8], sheet: &[u8], first: Vertex, v: Vertex) 
     crosses_run(size, bitmap, p, q, v.stick, end.gap)
 }
 
-// Whether a contour is held, and if so the place after its vertices.
-#[derive(Clone, Copy)]
-pub struct Checked {
-    pub held: bool,
-    pub end: usize,
-}
-
-// The contour that starts at `first`. At the last kept vertex, the edge back to the first one is tested.
-fn held_contour(size: Size, bitmap: &[u8], sheet: &[u8], first: Vertex) -> Checked
+// The place after the vertices of the contour that starts at `first`, if it is held. At the last kept vertex, the edge back to the first
+// one is tested.
+fn held_contour(size: Size, bitmap: &[u8], sheet: &[u8], first: Vertex) -> Option<usize>
     requires { VerticesStand (layer_of size bitmap.now) sheet.now first }
     ensures { ContourChecked (layer_of size bitmap.now) sheet.now first result }
 {
     let mut v = first;
     let mut kept: usize = 0;
     loop {
-        let place = v.place;
-        if sheet[place] != b'R' {
+        if sheet[v.place] != b'R' {
             if !held_edge(size, bitmap, sheet, first, v) {
-                return Checked {
-                    held: false,
-                    end: place,
-                };
+                return None;
             }
             kept += 1;
         }
-        let stick = next_stick(size, bitmap, v.stick);
-        let after = place + VERTEX_BYTES;
         v = Vertex {
-            stick,
-            place: after,
+            stick: next_stick(size, bitmap, v.stick),
+            place: v.place + VERTEX_BYTES,
         };
         if same_edge(v.stick, first.stick) {
             break;
         }
     }
-    Checked {
-        held: 3 <= kept,
-        end: v.place,
-    }
+    if 3 <= kept { Some(v.place) } else { None }
 }
 
 // Question 7, from the set of first sticks.
@@ -148,17 +128,14 @@ pub fn ask_described(size: Size, bitmap: &[u8], sheet: &[u8], set: &EdgeSet) -> 
     let mut place: usize = SIZE_BYTES;
     let mut at = first_contour(size, bitmap, set);
     while at.more {
-        let stick = at.stick;
-        let start = place + CONTOUR_BYTES;
         let first = Vertex {
-            stick,
-            place: start,
+            stick: at.stick,
+            place: place + CONTOUR_BYTES,
         };
-        let checked = held_contour(size, bitmap, sheet, first);
-        if !checked.held {
+        let Some(end) = held_contour(size, bitmap, sheet, first) else {
             return Answer::No(Refusal::NotHeld, at.number);
-        }
-        place = checked.end;
+        };
+        place = end;
         at = next_contour(size, bitmap, set, at);
     }
     Answer::Yes

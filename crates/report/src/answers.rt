@@ -11,7 +11,7 @@ ghost use Rattle.planner.specs.Plan as Plan;
 ghost use Rattle.area.specs.Call as Area;
 ghost use Rattle.report.specs.Results.{Outputs, Measures, trace_result, counts_result, smooth_result, simplify_result, roll_result, write_result, read_result, plan_result, measure_result, sample_result};
 
-use super::report::{Report, done_report, figure_of, one_if, refused_report};
+use super::report::{Report, done_report, figure_of, refused_report};
 use area::Measured;
 use planner::Planned;
 use reading::SheetRead;
@@ -52,7 +52,7 @@ pub fn smoothed_report(answer: Smoothing) -> Report
             passes,
             total,
             settled,
-        } => done_report(passes, total, one_if(settled)),
+        } => done_report(passes, total, usize::from(settled)),
         Smoothing::Refused(q, place) => refused_report(q, place),
     }
 }
@@ -77,11 +77,8 @@ pub fn rolled_report(answer: Rolled) -> Report
             place,
             done,
         } => Report {
-            number: grid::refusal_number(question),
-            place,
             first: done,
-            second: 0,
-            third: 0,
+            ..refused_report(question, place)
         },
     }
 }
@@ -132,7 +129,7 @@ pub fn sampled_report(sampled: Sampled) -> Report
     Report {
         number: sampled.number,
         place: sampled.place,
-        first: one_if(sampled.inside),
+        first: usize::from(sampled.inside),
         second: 0,
         third: 0,
     }

@@ -1,5 +1,5 @@
 // A report: a number, a place and three figures, as a refused call gives it and one that is done, and its storing.
-ghost use Rattle.std.specs.Prelude.{◌≡◌, cond, ◌≤◌, length};
+ghost use Rattle.std.specs.Prelude.{◌≡◌, ◌≤◌, length};
 ghost use Rattle.grid.specs.Questions.{number_of};
 ghost use Rattle.report.specs.Results.{ReportStored, twos_complement};
 
@@ -52,22 +52,9 @@ pub fn done_report(first: usize, second: usize, third: usize) -> Report
     }
 }
 
-pub fn one_if(b: bool) -> usize
-    ensures { result ≡ cond b 1 0 }
-{
-    if b { 1 } else { 0 }
-}
-
-// The largest figure: in two's complement, −1.
-const ALL_ONES: usize = 18446744073709551615;
-
 // A signed number as a figure: below 0 in two's complement.
 pub fn figure_of(z: i64) -> usize
     ensures { result ≡ twos_complement z }
 {
-    if z >= 0 {
-        z as usize
-    } else {
-        ALL_ONES - (-1 - z) as usize
-    }
+    z.cast_unsigned() as usize
 }

@@ -2,6 +2,7 @@
 -- step leaves the table accepted.
 use mathlib.Core.Path.{◌≡◌, refl, sym, ◌∙◌, ap, subst}
 use mathlib.Core.List.{List}
+use Rattle.std.specs.Prelude.{Option, Some, None, Ok, Err}
 use Prim.Native.Nat.{ℕ, zero, suc, ◌+◌, ◌≤◌, ◌<◌}
 use native.Mathlib.Decide.{dec_lt}
 use native.Mathlib.Omega.{arith}
@@ -15,15 +16,17 @@ use Rattle.grid.specs.declared.question.Answer.TheVariants.{Yes, No}
 use Rattle.grid.proofs.Answers.{no-not-yes}
 use Rattle.table.specs.Stores.{slid, without, pinned}
 use Rattle.held.specs.Questions.{Accepted}
-use Rattle.roll.specs.declared.rolling.Step.{Step}
-use Rattle.roll.specs.declared.rolling.Step.TheVariants.{On, End, Stop}
 use Rattle.roll.specs.Commands.{Command, slides, removes, pins, ends, wrong, named_at, command_at, formed_from}
 use Rattle.edit.specs.Edits.{Named, edge_named, slide_answer, removal_answer, pin_answer}
 use Rattle.edit.specs.Chords.{stored_if, Exact}
-use Rattle.roll.specs.Steps.{Stepped, stepped, step_on, step_by, slide_step, removal_step, pin_step, step_of, Runnable, Readable}
+use Rattle.roll.specs.Steps.{Step, Stepped, stop, stepped, step_on, step_by, slide_step, removal_step, pin_step, step_of, Runnable, Readable}
 use Rattle.roll.specs.Roll.{Outcome, run_from}
 use Rattle.roll.proofs.Forms.{formed-slide, formed-removal, formed-pin, formed-wrong, at-slide, at-slide-cut, at-removal, at-removal-cut, at_pin, at-pin-cut, at-end, at_none}
 use Rattle.edit.proofs.Asked.{slide-keeps, removal-keeps, pin-keeps}
+
+-- a command that is done, by what comes after it
+pub done-next : (known : Option ℕ) {x : Step} {next : Option ℕ} → x ≡ Ok next → next ≡ known → x ≡ Ok known
+done-next known e is = e ∙ ap Ok is
 
 -- A step from an answer and a store
 
@@ -81,8 +84,8 @@ module _ (L : Layer) (tolerance : ℕ) (r : List ℕ) (i : ℕ) (t : List ℕ) w
     | slides s o ↦ slide_step L tolerance i t s o
     | removes s ↦ removal_step L tolerance i t s
     | pins s ↦ pin_step L i t s
-    | ends ↦ stepped End t
-    | wrong ↦ stepped (Stop Malformed i) t
+    | ends ↦ stepped (Ok None) t
+    | wrong ↦ stepped (stop Malformed i) t
   ]
 
   pub step_is : {c : Command} → command_at r i ≡ c → by-command c ≡ step_of L tolerance r i t
@@ -112,7 +115,7 @@ module _ {L : Layer} {t r : List ℕ} {i : ℕ} (k : Runnable L t r i) where
     pub pin-here : get_or r i 0 ≡ 0x50 → pin_step L i t (named_at r (i + 1)) ≡ step_of L tolerance r i t
     pin-here b = step_is L tolerance r i t (at_pin r i b (pin-whole r i k.formed b))
 
-    pub end-here : get_or r i 0 ≡ 0x45 → stepped End t ≡ step_of L tolerance r i t
+    pub end-here : get_or r i 0 ≡ 0x45 → stepped (Ok None) t ≡ step_of L tolerance r i t
     end-here b = step_is L tolerance r i t (at-end r i b (formed_below r i k.formed))
 
 -- Fuel: as many commands as there are bytes left are enough
@@ -167,9 +170,8 @@ module _ (L : Layer) (tolerance : ℕ) (r : List ℕ) where
   -- by the step that the command at i makes
   abbrev pub ran-after : ℕ → Stepped → Outcome
   ran-after done x = elim x.step [
-    | On j ↦ ran_from j (done + 1) x.table
-    | End ↦ stopped done x.table
-    | Stop q place ↦ refused done x.table q place
+    | Ok next ↦ elim next [ Some j ↦ ran_from j (done + 1) x.table | None ↦ stopped done x.table ]
+    | Err stopped-by ↦ refused done x.table stopped-by.question stopped-by.place
   ]
 
   ran_first : (i done : ℕ) (t : List ℕ) → ran_from i done t ≡ run_by i done t (λ j u. ran_from j (done + 1) u) (command_at r i)
@@ -206,24 +208,24 @@ record WentOn (L : Layer) (r : List ℕ) (i j : ℕ) (t : List ℕ) : Type 0 whe
   here : Runnable L t r j
   further : i < j
 
-stop-not-on : {q : Refusal} {place j : ℕ} → Stop q place ≡ On j → ⊥
+stop-not-on : {q : Refusal} {place j : ℕ} → stop q place ≡ Ok (Some j) → ⊥
 stop-not-on s = let z : ◌≡◌ {A = ℕ} 0 1 = cc in omega arith
 
-end-not-on : {j : ℕ} → End ≡ On j → ⊥
+end-not-on : {j : ℕ} → ◌≡◌ {A = Step} (Ok None) (Ok (Some j)) → ⊥
 end-not-on s = let z : ◌≡◌ {A = ℕ} 0 1 = cc in omega arith
 
 module _ {j : ℕ} {t' : List ℕ} where
-  on-yes : (answer : Answer) (after : ℕ) (t u : List ℕ) → step_by answer after t u ≡ stepped (On j) t'
+  on-yes : (answer : Answer) (after : ℕ) (t u : List ℕ) → step_by answer after t u ≡ stepped (Ok (Some j)) t'
       → (answer ≡ Yes) × (after ≡ j) × (u ≡ t')
-  on-yes Yes after t u h = (refl, (let s : On after ≡ On j = ap (λ (x : Stepped). x.step) h in cc), ap (λ (x : Stepped). x.table) h)
+  on-yes Yes after t u h = (refl, (let s : Ok (Some after) ≡ Ok (Some j) = ap (λ (x : Stepped). x.step) h in cc), ap (λ (x : Stepped). x.table) h)
   on-yes (No q place) after t u h = absurd (stop-not-on (ap (λ (x : Stepped). x.step) h))
 
   step-on : (L : Layer) (tolerance : ℕ) (r : List ℕ) (i : ℕ) (t : List ℕ) → Runnable L t r i
-      → step_of L tolerance r i t ≡ stepped (On j) t' → WentOn L r i j t'
+      → step_of L tolerance r i t ≡ stepped (Ok (Some j)) t' → WentOn L r i j t'
   unfolding slide_step removal_step pin_step
   step-on L tolerance r i t k h = go (command_at r i) refl
     where
-      made : (answer : Answer) (after : ℕ) (u : List ℕ) → step_by answer after t u ≡ stepped (On j) t' → i < after
+      made : (answer : Answer) (after : ℕ) (u : List ℕ) → step_by answer after t u ≡ stepped (Ok (Some j)) t' → i < after
           → (answer ≡ Yes → Accepted L u) → formed_from r after ≡ formed_from r i → WentOn L r i j t'
       made answer after u s less keeps same =
           let b = on-yes answer after t u s in
@@ -270,7 +272,7 @@ module _ {L : Layer} {tolerance : ℕ} {r t₀ t : List ℕ} {at done : ℕ} (ru
         ap (λ (y : Step). ran-after L tolerance r done (stepped y u)) (sym e) ∙ ap (ran-after L tolerance r done) is
         ∙ sym (ran-step L tolerance r at done t running.here.formed) ∙ running.same
 
-    module _ {j : ℕ} (e : x ≡ On j) where
+    module _ {j : ℕ} (e : x ≡ Ok (Some j)) where
       went : WentOn L r at j u
       went = step-on L tolerance r at t running.here (sym is ∙ ap (λ (y : Step). stepped y u) e)
 

@@ -1,16 +1,22 @@
 -- One command of a roll as the code takes it: its result, and the table after it. Roll.antt has the commands one after the other.
-use Rattle.std.specs.Prelude.{◌≡◌, List, ℕ, ◌+◌, ◌≤◌, length}
+use Rattle.std.specs.Prelude.{◌≡◌, List, ℕ, ◌+◌, ◌≤◌, length, Option, Some, None, Result, Ok, Err}
 use Rattle.grid.specs.Layer.{Layer}
 use Rattle.grid.specs.Questions.{if_all_yes}
+use Rattle.grid.specs.declared.question.Refusal.{Refusal}
 use Rattle.grid.specs.declared.question.Refusal.TheVariants.{Malformed}
 use Rattle.grid.specs.declared.question.Answer.{Answer}
 use Rattle.grid.specs.declared.question.Answer.TheVariants.{Yes}
 use Rattle.table.specs.Stores.{slid, without, pinned}
 use Rattle.held.specs.Questions.{Accepted}
-use Rattle.roll.specs.declared.rolling.Step.{Step}
-use Rattle.roll.specs.declared.rolling.Step.TheVariants.{On, End, Stop}
+use Rattle.roll.specs.declared.rolling.Stop.{Stop}
 use Rattle.roll.specs.Commands.{command_at, formed_from, slides, removes, pins, ends, wrong}
 use Rattle.edit.specs.Edits.{Named, edge_named, slide_answer, removal_answer, pin_answer}
+
+abbrev pub Step : Type 0
+Step = Result (Option ℕ) Stop
+
+abbrev pub stop : Refusal → ℕ → Step
+stop q place = Err (record { question = q; place = place })
 
 pub record Stepped : Type 0 where
   pub step : Step
@@ -19,13 +25,13 @@ pub record Stepped : Type 0 where
 abbrev pub stepped : Step → List ℕ → Stepped
 stepped step t = record { step = step; table = t }
 
--- on to the next command after a yes, else the refusal
+-- on to the next command after a yes, else the refused question and its place
 abbrev pub step_on : Answer → ℕ → Step
-step_on answer after = if_all_yes answer (λ q place. Stop q place) (On after)
+step_on answer after = if_all_yes answer stop (Ok (Some after))
 
 -- the same with the table t, which is t' after a yes
 abbrev pub step_by : Answer → ℕ → List ℕ → List ℕ → Stepped
-step_by answer after t t' = if_all_yes answer (λ q place. stepped (Stop q place) t) (stepped (On after) t')
+step_by answer after t t' = if_all_yes answer (λ q place. stepped (stop q place) t) (stepped (Ok (Some after)) t')
 
 module _ (L : Layer) (tolerance i : ℕ) (t : List ℕ) where
   unfoldable pub slide_step : Named → ℕ → Stepped
@@ -43,8 +49,8 @@ step_of L tolerance r i t = elim (command_at r i) [
   | slides s o ↦ slide_step L tolerance i t s o
   | removes s ↦ removal_step L tolerance i t s
   | pins s ↦ pin_step L i t s
-  | ends ↦ stepped End t
-  | wrong ↦ stepped (Stop Malformed i) t
+  | ends ↦ stepped (Ok None) t
+  | wrong ↦ stepped (stop Malformed i) t
 ]
 
 -- What a command is run on: a layer that passes questions 1 to 7, and a roll that is well formed from byte i on, or has n bytes from there

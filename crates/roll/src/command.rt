@@ -7,27 +7,12 @@ ghost use Rattle.roll.specs.Commands.{two_bytes, named_at, roll_answer};
 use edit::Named;
 use grid::{Answer, Refusal};
 
-fn widen(x: u8) -> usize
-    ensures value { result ≡ x }
-    ensures upper_bound { result < 256 }
-{
-    x as usize
-}
-
-fn byte_at(roll: &[u8], at: usize) -> usize
-    requires { at < length roll.now }
-    ensures value { result ≡ get_or roll.now at 0 }
-    ensures upper_bound { result < 256 }
-{
-    widen(roll[at])
-}
-
 // 16 bits, low byte first.
 fn two_bytes(roll: &[u8], at: usize) -> usize
     requires { at + 2 ≤ length roll.now }
     ensures { result ≡ two_bytes roll.now at }
 {
-    byte_at(roll, at) + 256 * byte_at(roll, at + 1)
+    usize::from(u16::from_le_bytes([roll[at], roll[at + 1]]))
 }
 
 // The stick that a command names from byte `at` on.

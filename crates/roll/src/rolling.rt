@@ -23,20 +23,22 @@ pub enum Rolled {
     },
 }
 
-// The result of a command: it is done and the next one starts at a byte, the roll ends, or a question is answered no.
+// A question of a command that is answered no, and its place.
 #[derive(Clone, Copy)]
-pub enum Step {
-    On(usize),
-    End,
-    Stop(Refusal, usize),
+pub struct Stop {
+    pub question: Refusal,
+    pub place: usize,
 }
+
+// A command is done, and the next one starts at a byte or none is left; or it stops the roll.
+type Step = Result<Option<usize>, Stop>;
 
 fn step_after(answer: Answer, after: usize) -> Step
     ensures { result ≡ step_on answer after }
 {
     match answer {
-        Answer::Yes => Step::On(after),
-        Answer::No(q, place) => Step::Stop(q, place),
+        Answer::Yes => Ok(Some(after)),
+        Answer::No(question, place) => Err(Stop { question, place }),
     }
 }
 
@@ -77,8 +79,11 @@ fn run_command(size: Size, bitmap: &[u8], table: &mut [u16], roll: &[u8], at: us
         b'S' => slide_at(size, bitmap, table, roll, at, t),
         b'X' => remove_at(size, bitmap, table, roll, at, t),
         b'P' => pin_at(size, table, roll, at),
-        b'E' => Step::End,
-        _ => Step::Stop(Refusal::Malformed, at),
+        b'E' => Ok(None),
+        _ => Err(Stop {
+            question: Refusal::Malformed,
+            place: at,
+        }),
     }
 }
 
@@ -90,16 +95,15 @@ fn run(size: Size, bitmap: &[u8], table: &mut [u16], roll: &[u8], t: u8) -> Roll
     let mut at: usize = 0;
     let mut done: usize = 0;
     loop {
-        let step = run_command(size, bitmap, table, roll, at, t);
-        match step {
-            Step::On(next) => {
+        match run_command(size, bitmap, table, roll, at, t) {
+            Ok(Some(next)) => {
                 at = next;
                 done += 1;
             }
-            Step::End => return Rolled::Done(done),
-            Step::Stop(q, place) => {
+            Ok(None) => return Rolled::Done(done),
+            Err(Stop { question, place }) => {
                 return Rolled::Refused {
-                    question: q,
+                    question,
                     place,
                     done,
                 };

@@ -2,7 +2,7 @@
 -- as the place is beyond.
 use mathlib.Core.Path.{◌≡◌, refl, ◌∙◌, ap}
 use mathlib.Core.List.{List}
-use Prim.Native.Nat.{ℕ, ◌+◌, ◌*◌, ◌/◌, ◌%◌, ◌≤◌, ◌<◌}
+use Prim.Native.Nat.{ℕ, ◌+◌, ◌*◌, ◌/◌, ◌%◌, ◌<◌}
 use native.Mathlib.Decide.{ℕ_discrete}
 use native.Mathlib.Omega.{arith}
 use lib.ListN.{length, get_or, set, length-set}
@@ -15,7 +15,7 @@ use Rattle.contour.specs.Contours.{walk_of}
 use Rattle.contour.proofs.Orbit.{ahead-one}
 use Rattle.contour.proofs.Sticks.{laws}
 use Rattle.run.specs.Runs.{stick_after, StickOf, HasSticks}
-use Rattle.run.specs.Marks.{mark_places, MarkedAlong, Along}
+use Rattle.run.specs.Marks.{mark_places, Along}
 use Rattle.run.proofs.Steps.{no_steps, steps_on, steps-from, stick-on, most-sticks}
 
 -- the first k marks are put, of the contour of n sticks from f on, and `at` is where the next one belongs
@@ -23,15 +23,11 @@ pub record MarksPut (L : Layer) (f : Edge) (n : ℕ) (marks : List ℕ) (at : Ed
   pub sized : length marks ≡ mark_places
   pub says : (j : ℕ) → j < k → get_or marks j 0 ≡ number L.size (stick_after L (j * 64) f)
   pub here : at ≡ stick_after L (k * 64) f
-  pub near : k * 64 < n + 64
 
 pub put-none : (L : Layer) (f : Edge) (n : ℕ) (marks : List ℕ) → length marks ≡ mark_places → MarksPut L f n marks f 0
-put-none L f n marks sized = record { sized = sized; says = λ j h. absurd (omega arith); here = no_steps L f; near = omega arith }
+put-none L f n marks sized = record { sized = sized; says = λ j h. absurd (omega arith); here = no_steps L f }
 
 module _ {L : Layer} {f : Edge} {n : ℕ} (contour : HasSticks L f n) {marks : List ℕ} {at : Edge} {k : ℕ} (put : MarksPut L f n marks at k) where
-  pub put_small : k * 64 < 2095168
-  put_small = omega (arith, put.near, most-sticks contour)
-
   pub put-stick : StickOf L at
   put-stick = record { sound = contour.sound; stick = stick-on L f (k * 64) contour.sound contour.stick put.here }
 
@@ -55,11 +51,7 @@ module _ {L : Layer} {f : Edge} {n : ℕ} (contour : HasSticks L f n) {marks : L
           | no d ↦ get_or-set_other marks k j v 0 d ∙ put.says j (omega arith)
         ];
         here = steps_on L f (k * 64) 64 put.here on ∙ ap (λ (m : ℕ). stick_after L m f) sum;
-        near = omega arith;
       }
-
-  pub put_all : n ≤ k * 64 → MarkedAlong L f marks
-  put_all all j room h = put.says j (omega (arith, contour.all))
 
 -- From a mark
 

@@ -2,8 +2,8 @@
 -- the loop stands, with the sticks that are left, and laws for one more turn and for the end.
 use mathlib.Core.Path.{◌≡◌, refl, sym, ◌∙◌, ap}
 use mathlib.Core.Bool.{true, false}
-use mathlib.Core.List.{List, [], ◌∷◌, foldl}
-use Prim.Native.Nat.{ℕ, zero, suc, ◌+◌, ◌-◌, ◌≤◌, ◌<◌}
+use mathlib.Core.List.{List, [], foldl}
+use Prim.Native.Nat.{ℕ, ◌+◌, ◌-◌, ◌≤◌, ◌<◌}
 use native.Mathlib.Omega.{arith}
 use lib.ListN.{length}
 use Rattle.arith.specs.Lists.{each}
@@ -12,7 +12,7 @@ use Rattle.grid.specs.Edges.{edge_count, is_stick}
 use Rattle.grid.specs.Questions.{Sound}
 use Rattle.grid.specs.declared.edge.Edge.{Edge}
 use Rattle.grid.proofs.Numbers.{edges-small}
-use Rattle.step.specs.Walk.{next}
+use Rattle.step.specs.Walk.{next, following}
 use Rattle.step.proofs.Following.{on-next, following-none, following-more, TestsLeft}
 use Rattle.contour.specs.Walk.{ahead, rest}
 use Rattle.contour.specs.Contours.{walk_of, contour_of, same_edge}
@@ -38,6 +38,11 @@ module _ (L : Layer) (f : Edge) where
   -- steps from f to `at` and on from there to r, and those from f to r
   pub steps_on : {at r : Edge} (p q : ℕ) → at ≡ stick_after L p f → r ≡ stick_after L q at → r ≡ stick_after L (p + q) f
   steps_on p q here on = on ∙ ap (stick_after L q) here ∙ sym (ahead-add (walk_of L) p q f)
+
+  -- one step more
+  pub step-more : {at r : Edge} (k : ℕ) → at ≡ stick_after L k f → r ≡ next L at → r ≡ stick_after L (k + 1) f
+  unfolding ahead
+  step-more k here step = steps_on k 1 here step
 
   pub steps-from : {at r : Edge} (p q : ℕ) → at ≡ stick_after L p f → r ≡ stick_after L (p + q) f → r ≡ stick_after L q at
   steps-from p q here there = there ∙ ahead-add (walk_of L) p q f ∙ ap (stick_after L q) (sym here)
@@ -106,34 +111,10 @@ module _ {L : Layer} where
       pub sticks-last : same_edge e' f ≡ true → n + 1 ≡ length (contour_of L f)
       sticks-last s = omega (arith, here.in_all, ap length (rest-last (walk_of L) (laws L sound) f e e' here.due step s))
 
--- A walk of n steps from e, of which some are left: so many steps on from here is where it ends
-
-pub record StepsLeft (L : Layer) (e : Edge) (n : ℕ) (at : Edge) (left : ℕ) : Type 0 where
-  pub stick : is_stick L at ≡ true
-  pub same : stick_after L left at ≡ stick_after L n e
-
-step-off : (L : Layer) (left : ℕ) (at at' : Edge) → 0 < left → at' ≡ next L at → stick_after L (left - 1) at' ≡ stick_after L left at
-unfolding ahead
-step-off L zero at at' some step = absurd (omega arith)
-step-off L (suc k) at at' some step = let m : suc k - 1 ≡ k = omega arith in rw (m, step)
-
-module _ {L : Layer} {e : Edge} {n : ℕ} {at : Edge} {left : ℕ} (here : StepsLeft L e n at left) where
-  pub steps-turn : {at' : Edge} → Sound L → 0 < left → at' ≡ next L at → StepsLeft L e n at' (left - 1)
-  steps-turn {at'} sound some step =
-      record { stick = on-next sound at here.stick step; same = step-off L left at at' some step ∙ here.same }
-
-  pub steps-end : left ≤ 0 → at ≡ stick_after L n e
-  steps-end over =
-      let none : left ≡ 0 = omega arith in
-      no_steps L at ∙ ap (λ (k : ℕ). stick_after L k at) (sym none) ∙ here.same
-
--- The sticks between the ends of a run, of which none or one more is left
+-- The sticks between the ends of a run
 
 pub between_none : (L : Layer) (e : Edge) (n : ℕ) → n ≤ 1 → between L e n ≡ []
 between_none L e n over = following-none L (n - 1) e (omega arith)
-
-between_more : (L : Layer) (e : Edge) (n : ℕ) {e' : Edge} → 1 < n → e' ≡ next L e → between L e n ≡ e' ∷ between L e' (n - 1)
-between_more L e n some step = following-more L (n - 1) e (omega arith) step
 
 -- whether a run passes: the test of all sticks between, by the vertices p and q at its ends
 pub tests-start : {L : Layer} {t : List ℕ} {e end : Edge} {n : ℕ} (tolerance : ℕ) (p q : Position) → RunLent L t e end n
@@ -143,28 +124,27 @@ tests-start {L} {t} {e} {end} {n} tolerance p q given at_p at-q =
     let to : q ≡ vertex L t (stick_after L n e) = at-q ∙ ap (vertex L t) given.ends in
     record { stick = given.stick; same = λ i. each (chord_passes L t tolerance (at_p i) (to i)) (between L e n) }
 
--- The removal of all of them: removing those that are left, from here, removes all
+-- The removal of all of them: when k - 1 are removed, removing those that are left, from here, removes all
 
-pub record RemovalsLeft (L : Layer) (t₀ : List ℕ) (e : Edge) (n : ℕ) (t : List ℕ) (at : Edge) (left : ℕ) : Type 0 where
+pub record RemovalsLeft (L : Layer) (t₀ : List ℕ) (e : Edge) (n : ℕ) (t : List ℕ) (at : Edge) (k : ℕ) : Type 0 where
   pub stick : is_stick L at ≡ true
   pub same_length : length t ≡ length t₀
-  pub same : foldl (without L) t (between L at left) ≡ foldl (without L) t₀ (between L e n)
+  pub same : foldl (without L) t (following L (n - k) at) ≡ foldl (without L) t₀ (between L e n)
 
-module _ {L : Layer} {t₀ : List ℕ} {e : Edge} {n : ℕ} {t : List ℕ} {at : Edge} {left : ℕ} (here : RemovalsLeft L t₀ e n t at left) where
+module _ {L : Layer} {t₀ : List ℕ} {e : Edge} {n : ℕ} {t : List ℕ} {at : Edge} {k : ℕ} (here : RemovalsLeft L t₀ e n t at k) where
   module _ (sound : Sound L) {at' : Edge} (step : at' ≡ next L at) where
     pub removals-lent : length t₀ ≡ edge_count L.size → LentAt L t at'
     removals-lent exact =
         record { sound = sound; exact = here.same_length ∙ exact; stick = on-next sound at here.stick step }
 
-    pub removals-turn : 1 < left → {t' : List ℕ} → t' ≡ without L t at' → RemovalsLeft L t₀ e n t' at' (left - 1)
-    removals-turn some is =
+    pub removals-turn : k < n → {t' : List ℕ} → t' ≡ without L t at' → RemovalsLeft L t₀ e n t' at' (k + 1)
+    removals-turn more is =
+        let one : n - (k + 1) ≡ n - k - 1 = omega arith in
         record {
           stick = on-next sound at here.stick step;
           same_length = ap length is ∙ store_length L t at' (Removed (offset_at L t at')) ∙ here.same_length;
-          same = ap (λ (x : List ℕ). foldl (without L) x (between L at' (left - 1))) is
-              ∙ sym (ap (foldl (without L) t) (between_more L at left some step))
-              ∙ here.same;
+          same = rw (one, is) (sym (ap (foldl (without L) t) (following-more L (n - k) at (omega arith) step)) ∙ here.same);
         }
 
-  pub removals-end : left ≤ 1 → t ≡ foldl (without L) t₀ (between L e n)
-  removals-end over = sym (ap (foldl (without L) t) (between_none L at left over)) ∙ here.same
+  pub removals-end : n ≤ k → t ≡ foldl (without L) t₀ (between L e n)
+  removals-end over = sym (ap (foldl (without L) t) (following-none L (n - k) at (omega arith))) ∙ here.same

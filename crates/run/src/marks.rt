@@ -22,18 +22,10 @@ pub fn put_marks(size: Size, bitmap: &[u8], first: Edge, n: usize, marks: &mut [
     ensures marked_along { MarkedAlong (layer_of size bitmap.now) first marks.new }
 {
     let mut at = first;
-    let mut k: usize = 0;
-    while k * APART < n {
+    for k in 0..n.div_ceil(APART) {
         marks[k] = number_of(size, at) as u32;
         at = stick_after(size, bitmap, at, APART);
-        k += 1;
     }
-}
-
-pub fn widen(x: u32) -> usize
-    ensures { result ≡ x }
-{
-    x as usize
 }
 
 // The stick h steps on from e, which is p steps on from where the marks start: from the mark before it, where e is farther away.
@@ -42,13 +34,11 @@ pub fn stick_at(size: Size, bitmap: &[u8], marks: &[u32], e: Edge, p: usize, h: 
     ensures { result ≡ stick_after (layer_of size bitmap.now) h e }
 {
     let place = p + h;
-    let k = place / APART;
-    if h < APART {
-        return stick_after(size, bitmap, e, h);
+    match marks.get(place / APART) {
+        Some(&mark) if APART <= h => {
+            let near = edge_at(size, mark as usize);
+            stick_after(size, bitmap, near, place % APART)
+        }
+        _ => stick_after(size, bitmap, e, h),
     }
-    if marks.len() <= k {
-        return stick_after(size, bitmap, e, h);
-    }
-    let near = edge_at(size, widen(marks[k]));
-    stick_after(size, bitmap, near, place % APART)
 }

@@ -30,10 +30,7 @@ fn chord_passes(
         return false;
     }
     let entry = entry_at(size, table, u);
-    if !slides_within(t, p, q, u, offset_in(entry)) {
-        return false;
-    }
-    !is_pinned(entry)
+    slides_within(t, p, q, u, offset_in(entry)) && !is_pinned(entry)
 }
 
 // Whether the run of n edges from stick e to stick `end` passes. It stops at the first stick that fails.
@@ -52,13 +49,11 @@ pub fn passes_run(
     let p = vertex_at(size, table, e);
     let q = vertex_at(size, table, end);
     let mut at = e;
-    let mut left = n;
-    while 1 < left {
+    for _ in 1..n {
         at = next_stick(size, bitmap, at);
         if !chord_passes(size, bitmap, table, t, p, q, at) {
             return false;
         }
-        left -= 1;
     }
     true
 }

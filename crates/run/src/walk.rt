@@ -34,10 +34,8 @@ pub fn stick_after(size: Size, bitmap: &[u8], e: Edge, n: usize) -> Edge
     ensures { result ≡ stick_after (layer_of size bitmap.now) n e }
 {
     let mut at = e;
-    let mut left = n;
-    while 0 < left {
+    for _ in 0..n {
         at = next_stick(size, bitmap, at);
-        left -= 1;
     }
     at
 }
@@ -48,10 +46,8 @@ pub fn remove_inner(size: Size, bitmap: &[u8], table: &mut [u16], e: Edge, n: us
     ensures { table.new ≡ foldl (without (layer_of size bitmap.now)) table.old (between (layer_of size bitmap.now) e n) }
 {
     let mut at = e;
-    let mut left = n;
-    while 1 < left {
+    for _ in 1..n {
         at = next_stick(size, bitmap, at);
         table::remove(size, table, at);
-        left -= 1;
     }
 }

@@ -5,7 +5,6 @@ use mathlib.Core.List.{List, [], ◌∷◌, ◌++◌}
 use Prim.Native.Nat.{ℕ, ◌+◌, ◌≤◌, ◌<◌}
 use lib.ListN.{length}
 use Rattle.grid.specs.Layer.{Layer}
-use Rattle.grid.specs.Edges.{is_stick}
 use Rattle.grid.specs.Questions.{Sound}
 use Rattle.grid.specs.declared.edge.Edge.{Edge}
 use Rattle.step.specs.Walk.{next}
@@ -40,10 +39,12 @@ module _ {L : Layer} {t : List ℕ} {f : Edge} {s₀ : List ℕ} {i₀ : ℕ} wh
   pub vertices-start : LentAt L t f → AtVertex L t f s₀ i₀ s₀ i₀ f
   vertices-start given = record { due = start (walk_of L) (laws L given.sound) f given.stick; stored = part-start }
 
-  module _ (sound : Sound L) {s : List ℕ} {i : ℕ} {x : Edge} (here : AtVertex L t f s₀ i₀ s i x) where
-    pub vertex-stick : is_stick L x ≡ true
-    vertex-stick = due-one (walk_of L) (laws L sound) f x here.due
+  -- what is given of the stick that the walk is at
+  pub vertex-lent : LentAt L t f → {s : List ℕ} {i : ℕ} {x : Edge} → AtVertex L t f s₀ i₀ s i x → LentAt L t x
+  vertex-lent given {x = x} here =
+      record { sound = given.sound; exact = given.exact; stick = due-one (walk_of L) (laws L given.sound) f x here.due }
 
+  module _ (sound : Sound L) {s : List ℕ} {i : ℕ} {x : Edge} (here : AtVertex L t f s₀ i₀ s i x) where
     module _ {entry : Entry} (told : entry ≡ entry_at L t x) where
       -- there is room for its command
       pub vertex-room : i₀ + length (contour_vertices L t f) ≤ length s₀ → i + length (vertex_command entry) ≤ length s

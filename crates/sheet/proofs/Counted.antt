@@ -7,7 +7,7 @@ use native.Mathlib.Omega.{arith}
 use lib.ListN.{length, length-append}
 use Rattle.grid.specs.Layer.{Layer}
 use Rattle.mask.specs.Counts.{stick_count}
-use Rattle.grid.specs.Questions.{Sound}
+use Rattle.grid.specs.Questions.{Sound, first_no}
 use Rattle.grid.specs.declared.edge.Edge.{Edge}
 use Rattle.grid.specs.declared.question.Answer.TheVariants.{Yes}
 use Rattle.contour.specs.Walk.{contour}
@@ -18,6 +18,8 @@ use Rattle.table.specs.Vertices.{entry_at}
 use Rattle.table.specs.declared.entry.Entry.{Entry}
 use Rattle.table.specs.declared.entry.Entry.TheVariants.{Nothing, Kept, Removed, Pinned, Wrong}
 use Rattle.table.proofs.Suits.{entry-suits}
+use Rattle.held.specs.Questions.{held_questions}
+use Rattle.held.proofs.Asking.{accepted-of}
 use Rattle.sheet.specs.Commands.{vertex_command, end_command}
 use Rattle.sheet.specs.Written.{vertices_of, contour_bytes, contours_bytes, all_contours, sheet_of}
 
@@ -68,3 +70,8 @@ module _ (L : Layer) (sound : Sound L) where
           contours-length (first_sticks L) (firsts-sticks sound),
           total-length L sound,
         )
+
+-- of a layer that passes questions 1 to 7
+pub held-length : (L : Layer) (t : List ℕ) → first_no (held_questions L t) ≡ Yes
+    → length (sheet_of L t) ≡ 6 + 6 * contour_count L + 2 * stick_count L
+held-length L t asked = let all = accepted-of L t asked in sheet-length L all.sound t all.entries

@@ -6,5 +6,5 @@ mod command;
 mod walk;
 mod write;
 
-pub use command::{CONTOUR_BYTES, SIZE_BYTES, VERTEX_BYTES, kind_of};
+pub use command::{CONTOUR_BYTES, SIZE_BYTES, VERTEX_BYTES, contour_command, size_command};
 pub use write::{Written, write_sheet};

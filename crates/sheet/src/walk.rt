@@ -6,8 +6,8 @@ ghost use Rattle.table.specs.Lent.{Lent, LentAt};
 ghost use Rattle.sheet.specs.Written.{contour_vertices, contour_bytes, all_contours};
 ghost use Rattle.sheet.specs.Stored.{Stored};
 
-use super::bytes::{put_first, put_vertex};
-use super::command::CONTOUR_BYTES;
+use super::bytes::{put_bytes, put_vertex};
+use super::command::{CONTOUR_BYTES, contour_command};
 use bitset::EdgeSet;
 use contour::{first_contour, next_contour, same_edge};
 use grid::{Edge, Size};
@@ -52,7 +52,7 @@ fn put_contour(
     requires room { at + length (contour_bytes (layer_of size bitmap.now) table.now first) ≤ length sheet.old }
     ensures { Stored sheet.old at (contour_bytes (layer_of size bitmap.now) table.now first) sheet.new result }
 {
-    put_first(sheet, at, first);
+    put_bytes(sheet, at, &contour_command(first));
     put_vertices(size, bitmap, table, sheet, at + CONTOUR_BYTES, first)
 }
 

@@ -11,8 +11,8 @@ ghost use Rattle.table.specs.Lent.{Lent};
 ghost use Rattle.held.specs.Questions.{held_questions};
 ghost use Rattle.sheet.specs.Written.{sheet_of, outcome, write_of};
 
-use super::bytes::{put_byte, put_size};
-use super::command::SIZE_BYTES;
+use super::bytes::put_bytes;
+use super::command::{SIZE_BYTES, size_command};
 use super::walk::put_contours;
 use bitset::{EdgeSet, WORDS};
 use contour::contours_in;
@@ -41,9 +41,9 @@ fn put_sheet(size: Size, bitmap: &[u8], table: &[u16], set: &EdgeSet, sheet: &mu
     requires room { length (sheet_of (layer_of size bitmap.now) table.now) ≤ length sheet.old }
     ensures { sheet.new ≡ sets sheet.old 0 (sheet_of (layer_of size bitmap.now) table.now) }
 {
-    put_size(sheet, size);
+    put_bytes(sheet, 0, &size_command(size));
     let end = put_contours(size, bitmap, table, set, sheet, SIZE_BYTES);
-    put_byte(sheet, end, b'E');
+    put_bytes(sheet, end, b"E");
 }
 
 // Writes the sheet of a layer that passed questions 1 to 7, if the output is long enough.

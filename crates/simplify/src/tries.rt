@@ -109,6 +109,5 @@ pub fn simplify_contour(
         put_marks(size, bitmap, first, n, &mut marks);
         return try_runs(size, bitmap, table, t, &marks, first, n);
     }
-    let unmarked: [u32; 1] = [0; 1];
-    try_runs(size, bitmap, table, t, &unmarked[1..], first, n)
+    try_runs(size, bitmap, table, t, &[], first, n)
 }

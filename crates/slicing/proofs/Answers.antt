@@ -1,13 +1,12 @@
 -- What the answers of the four calls say, read off their promises, and what the program's bytes are by the questions on command and sides.
-use mathlib.Core.Path.{◌≡◌, refl, sym, ap, ◌∙◌}
+use mathlib.Core.Path.{◌≡◌, sym, ap, ◌∙◌}
 use mathlib.Core.Bool.{Bool, true, false, cond}
-use mathlib.Core.List.{List, ◌∷◌}
-use Prim.Native.Nat.{ℕ, zero, suc, ◌-◌, ◌≤◌}
-use native.Mathlib.Nat.{sub-zero}
+use mathlib.Core.List.{List}
+use Prim.Native.Nat.{ℕ, ◌-◌, ◌≤◌}
 use native.Mathlib.Omega.{arith}
 use borrow.Author.Tests.{ne_eqb, leb-true}
 use lib.Dec.{eqb, leb}
-use lib.ListN.{length, get_or, take, drop, replicate, length-drop}
+use lib.ListN.{length, get_or, take, drop, length-drop}
 use lib.Seq.{take_all}
 use Rattle.arith.proofs.Booleans.{and_split}
 use Rattle.grid.specs.Layer.{Layer, layer_of, size_of}
@@ -54,16 +53,7 @@ module _ (L : Layer) (t : List ℕ) (r : Traced) (o : Trace.Outcome) (asked : Tr
       sym (ap (λ (b : Bool). cond b (sheet_of L (refined L t)) (refused_bytes (number_of q))) some)
       ∙ ap (bytes_after L) (sym (ap (λ (x : Traced). Trace.outcome x t) e) ∙ asked)
 
--- a part of a table of zeros is one
-take-zeros : (n m : ℕ) → n ≤ m → take {A = ℕ} n (replicate m 0) ≡ replicate n 0
-take-zeros zero m h = refl
-take-zeros (suc n) zero h = absurd (omega arith)
-take-zeros (suc n) (suc m) h = ap (λ (l : List ℕ). 0 ∷ l) (take-zeros n m (omega arith))
-
--- the parts of tables and inputs as they are lent: the first n entries, and what follows the command
-pub first-zeros : (n m : ℕ) → n ≤ m → take {A = ℕ} (n - 0) (replicate m 0) ≡ replicate n 0
-first-zeros n m h = rw (sub-zero n) (take-zeros n m h)
-
+-- what follows the command
 pub after-command : (input : List ℕ) → take (length input - command_length) (drop command_length input) ≡ drop command_length input
 after-command input = take_all (length input - command_length) (drop command_length input) (omega (arith, length-drop command_length input))
 

@@ -19,16 +19,7 @@ const SIDE_LIMIT: u16 = 64;
 pub fn has_command(input: &[u8]) -> bool
     ensures { result ≡ whole_command input.now }
 {
-    if input.len() < COMMAND_LENGTH {
-        return false;
-    }
-    input[0] == SIZE_LETTER
-}
-
-fn number(low: u8, high: u8) -> u16
-    ensures { result ≡ low + 256 * high }
-{
-    low as u16 + 256 * (high as u16)
+    COMMAND_LENGTH <= input.len() && input[0] == SIZE_LETTER
 }
 
 // The number of 16 bits that stands at a place, low byte first.
@@ -36,24 +27,18 @@ pub fn number_at(input: &[u8], i: usize) -> u16
     requires { i + 2 ≤ length input.now }
     ensures { result ≡ number_at input.now i }
 {
-    number(input[i], input[i + 1])
+    u16::from_le_bytes([input[i], input[i + 1]])
 }
 
 // A side of a layer is 2 to 64 samples here.
 fn side_fits(n: u16) -> bool
     ensures { result ≡ side_fits n }
 {
-    if n < 2 {
-        return false;
-    }
-    n <= SIDE_LIMIT
+    2 <= n && n <= SIDE_LIMIT
 }
 
 pub fn sides_fit(w: u16, h: u16) -> bool
     ensures { result ≡ sides_fit (size_of w h) }
 {
-    if !side_fits(w) {
-        return false;
-    }
-    side_fits(h)
+    side_fits(w) && side_fits(h)
 }

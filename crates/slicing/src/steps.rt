@@ -89,5 +89,5 @@ pub fn slice_layer(w: u16, h: u16, bitmap: &[u8], output: &mut [u8]) -> usize
 {
     let n = entry_count(w, h);
     let mut table = [0u16; TABLE_LIMIT];
-    slice_in(w, h, bitmap, &mut table[0..n], output)
+    slice_in(w, h, bitmap, &mut table[..n], output)
 }

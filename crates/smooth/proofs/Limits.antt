@@ -1,8 +1,8 @@
 -- What a loop over the passes of one contour cites: the invariant `PartSettled`, the sizes of its numbers, the next turn's, and both ends.
-use mathlib.Core.Path.{◌≡◌, sym, ◌∙◌, ap, subst}
+use mathlib.Core.Path.{◌≡◌, refl, sym, ◌∙◌, ap, subst}
 use mathlib.Core.Bool.{Bool, true, false}
 use mathlib.Core.List.{List}
-use Prim.Native.Nat.{ℕ, suc, ◌+◌, ◌-◌, ◌≤◌, ◌<◌}
+use Prim.Native.Nat.{ℕ, suc, ◌+◌, ◌-◌, ◌≤◌}
 use native.Mathlib.Omega.{arith}
 use borrow.Author.Tests.{ne_eqb}
 use lib.Dec.{eqb}
@@ -24,18 +24,18 @@ use Rattle.smooth.proofs.Sizes.{contour-most, pass-most}
 abbrev more : Layer → Edge → ℕ → Smoothed → Smoothed
 more L f n s = until (contour_pass L f) (length (contour_of L f)) n s
 
--- After these passes, those that the limit still allows give the result of the whole.
-pub record PartSettled (L : Layer) (limit : ℕ) (t₀ : List ℕ) (f : Edge) (t : List ℕ) (passes total : ℕ) (settled : Bool) : Type 0 where
+-- After these passes, of which none settled the contour, those that the limit still allows give the result of the whole.
+pub record PartSettled (L : Layer) (limit : ℕ) (t₀ : List ℕ) (f : Edge) (t : List ℕ) (passes total : ℕ) : Type 0 where
   pub kept : AllKept L t
   pub within : passes ≤ limit
-  pub still : more L f (limit - passes) (standing t passes total settled) ≡ smooth_contour L limit t₀ f
+  pub still : more L f (limit - passes) (standing t passes total false) ≡ smooth_contour L limit t₀ f
 
 -- a contour has a vertex, so it is not settled before any pass
 contour-some : (L : Layer) (f : Edge) → eqb (length (contour_of L f)) 0 ≡ false
 unfolding rest
 contour-some L f = ne_eqb (length (contour_of L f)) 0 λ (none : length (contour_of L f) ≡ 0). omega (arith, none)
 
-pub settling-start : {L : Layer} {limit : ℕ} {t : List ℕ} {f : Edge} → AllKept L t → PartSettled L limit t f t 0 0 false
+pub settling-start : {L : Layer} {limit : ℕ} {t : List ℕ} {f : Edge} → AllKept L t → PartSettled L limit t f t 0 0
 settling-start {L} {limit} {t} {f} kept =
     let all : limit - 0 ≡ limit = omega arith in
     record {
@@ -44,23 +44,22 @@ settling-start {L} {limit} {t} {f} kept =
       still = rw all (ap (λ (b : Bool). more L f limit (standing t 0 0 b)) (sym (contour-some L f)) ∙ sym (contour-is L limit t f));
     }
 
-module _ {L : Layer} {limit passes total : ℕ} {t₀ t : List ℕ} {f : Edge} {settled : Bool}
-    (g : PartSettled L limit t₀ f t passes total settled) where
+module _ {L : Layer} {limit passes total : ℕ} {t₀ t : List ℕ} {f : Edge} (g : PartSettled L limit t₀ f t passes total) where
   abbrev here : Smoothed
-  here = standing t passes total settled
+  here = standing t passes total false
 
   abbrev n : ℕ
   n = length (contour_of L f)
 
   -- the limit is reached
-  pub settling-limit : limit ≤ passes → standing t passes total settled ≡ smooth_contour L limit t₀ f
+  pub settling-limit : limit ≤ passes → standing t limit total false ≡ smooth_contour L limit t₀ f
   settling-limit l =
       let none : limit - passes ≡ 0 = omega arith in
-      sym (until_none (contour_pass L f) n here) ∙ sym (ap (λ (m : ℕ). more L f m here) none) ∙ g.still
-
-  -- the contour is settled
-  pub settling-settled : settled ≡ true → standing t passes total settled ≡ smooth_contour L limit t₀ f
-  settling-settled y = sym (until-settled (contour_pass L f) n (limit - passes) here y) ∙ g.still
+      let all : limit ≡ passes = omega (arith, g.within) in
+      ap (λ (k : ℕ). standing t k total false) all
+      ∙ sym (until_none (contour_pass L f) n here)
+      ∙ sym (ap (λ (m : ℕ). more L f m here) none)
+      ∙ g.still
 
   -- one pass more
   module _ (sound : Sound L) (stick : is_stick L f ≡ true) {r : PassCounts} {t' : List ℕ} (made : PassMade L t f r t') where
@@ -70,20 +69,28 @@ module _ {L : Layer} {limit passes total : ℕ} {t₀ t : List ℕ} {f : Edge} {
       omega (arith, made.vertices_is, contour-most sound f stick),
     )
 
-    pub settling-turn : passes < limit → settled ≡ false → {settled' : Bool} → settled' ≡ is_settled r.total r.vertices
-        → PartSettled L limit t₀ f t' (passes + 1) r.total settled'
-    settling-turn l y {settled'} e =
-        let one : limit - passes ≡ suc (limit - (passes + 1)) = omega arith in
-        let after : standing t' (passes + 1) r.total settled' ≡ further (contour_pass L f) n here =
-        ap (standing t' (passes + 1) r.total) (e ∙ ap (is_settled r.total) made.vertices_is)
-        ∙ ap (λ (p : Pass). standing p.table (passes + 1) p.total (is_settled p.total n)) made.pass_is
-        ∙ sym (further-is (contour_pass L f) n here) in
-        record {
-          kept = subst (λ (p : Pass). AllKept L p.table) (sym made.pass_is) (contour_pass-kept sound f stick g.kept);
-          within = omega arith;
-          still =
-              ap (more L f (limit - (passes + 1))) after
-              ∙ sym (until-more (contour_pass L f) n (limit - (passes + 1)) here y)
-              ∙ sym (ap (λ (m : ℕ). more L f m here) one)
-              ∙ g.still;
-        }
+    -- the number p of passes then, and whether the contour is settled
+    module _ {p : ℕ} (one : p ≡ passes + 1) (within : p ≤ limit) {settled : Bool} (e : settled ≡ is_settled r.total r.vertices) where
+      after : more L f (limit - p) (standing t' p r.total settled) ≡ smooth_contour L limit t₀ f
+      after =
+          let next : limit - passes ≡ suc (limit - (passes + 1)) = omega arith in
+          let is : standing t' (passes + 1) r.total settled ≡ further (contour_pass L f) n here =
+          ap (standing t' (passes + 1) r.total) (e ∙ ap (is_settled r.total) made.vertices_is)
+          ∙ ap (λ (q : Pass). standing q.table (passes + 1) q.total (is_settled q.total n)) made.pass_is
+          ∙ sym (further-is (contour_pass L f) n here) in
+          ap (λ (k : ℕ). more L f (limit - k) (standing t' k r.total settled)) one
+          ∙ ap (more L f (limit - (passes + 1))) is
+          ∙ sym (until-more (contour_pass L f) n (limit - (passes + 1)) here refl)
+          ∙ sym (ap (λ (m : ℕ). more L f m here) next)
+          ∙ g.still
+
+      pub settling-turn : settled ≡ false → PartSettled L limit t₀ f t' p r.total
+      settling-turn y =
+          record {
+            kept = subst (λ (q : Pass). AllKept L q.table) (sym made.pass_is) (contour_pass-kept sound f stick g.kept);
+            within = within;
+            still = rw y at after;
+          }
+
+      pub settling-settled : settled ≡ true → standing t' p r.total true ≡ smooth_contour L limit t₀ f
+      settling-settled y = sym (until-settled (contour_pass L f) n (limit - p) (standing t' p r.total true) refl) ∙ rw y at after

@@ -1,7 +1,6 @@
 // A pass: the step at one vertex, and along one contour.
 ghost use Rattle.std.specs.Prelude.{◌≡◌};
 ghost use Rattle.grid.specs.Layer.{layer_of};
-ghost use Rattle.chord.specs.Crossing.{distance};
 ghost use Rattle.smooth.specs.Smooth.{SmoothableAt};
 ghost use Rattle.smooth.specs.Visit.{Visitable, Visited, PassMade};
 
@@ -17,16 +16,6 @@ use table::{Entry, encoded_of, has_pin, offset_of};
 struct Stepped {
     offset: u8,
     change: usize,
-}
-
-fn change_of(old: u8, new: u8) -> usize
-    ensures { result ≡ distance old new }
-{
-    if old < new {
-        (new - old) as usize
-    } else {
-        (old - new) as usize
-    }
 }
 
 // The step at the vertex of stick e, whose entry stands at `at` and whose neighbours are at p and q. A pinned vertex is skipped.
@@ -46,7 +35,7 @@ fn visit(table: &mut [u16], at: usize, e: Edge, p: Position, q: Position) -> Ste
     table[at] = encoded_of(Entry::Kept(new));
     Stepped {
         offset: new,
-        change: change_of(old, new),
+        change: usize::from(old.abs_diff(new)),
     }
 }
 

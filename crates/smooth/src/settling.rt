@@ -1,5 +1,5 @@
 // The smoothing of one contour, and of all contours, one after the other.
-ghost use Rattle.std.specs.Prelude.{◌≡◌, ◌≤◌, max};
+ghost use Rattle.std.specs.Prelude.{◌≡◌, ◌≤◌};
 ghost use Rattle.grid.specs.Layer.{layer_of};
 ghost use Rattle.contour.specs.Sets.{FirstSet};
 ghost use Rattle.smooth.specs.Smooth.{is_settled, most_vertices, most_total, smooth_contour, smooth, Smoothable, SmoothableAt};
@@ -27,34 +27,28 @@ fn is_settled(total: usize, vertices: usize) -> bool
     1000 * total < 256 * vertices
 }
 
-fn larger(a: usize, b: usize) -> usize
-    ensures { result ≡ max a b }
-{
-    if a < b { b } else { a }
-}
-
 // Passes over the contour that starts at `first` until it is settled, or the limit is reached.
 fn smooth_contour(size: Size, bitmap: &[u8], table: &mut [u16], first: Edge, limit: u16) -> Settling
     requires { SmoothableAt (layer_of size bitmap.now) table.old first }
     ensures { reached result table.new ≡ smooth_contour (layer_of size bitmap.now) limit table.old first }
 {
-    let most = limit as usize;
-    let mut passes: usize = 0;
+    let most = usize::from(limit);
     let mut total: usize = 0;
-    let mut settled = false;
-    while passes < most {
-        if settled {
-            break;
-        }
+    for passes in 1..=most {
         let made = pass_contour(size, bitmap, table, first);
         total = made.total;
-        settled = is_settled(made.total, made.vertices);
-        passes += 1;
+        if is_settled(made.total, made.vertices) {
+            return Settling {
+                passes,
+                total,
+                settled: true,
+            };
+        }
     }
     Settling {
-        passes,
+        passes: most,
         total,
-        settled,
+        settled: false,
     }
 }
 
@@ -76,9 +70,9 @@ pub fn smooth_contours(
     let mut at = first_contour(size, bitmap, set);
     while at.more {
         let one = smooth_contour(size, bitmap, table, at.stick, limit);
-        passes = larger(passes, one.passes);
+        passes = passes.max(one.passes);
         total += one.total;
-        settled = settled && one.settled;
+        settled &= one.settled;
         at = next_contour(size, bitmap, set, at);
     }
     Settling {

@@ -1,40 +1,31 @@
-// The calls of the library that a script makes: T is Trace, N is Counts, H is questions 1 to 7, S is Smooth, Y is Simplify; A
-// stands in measure.rt, W, D, R and L in text.rt. A call says whether the script is right there.
+// The calls of the library that a script makes. What each is lent and what it writes besides bitmap and table stands in measure.rt for Areas,
+// in text.rt for those that take or write bytes.
+use super::command::Call;
 use super::digest::digest_of;
+use super::line;
 use super::measure::areas_call;
+use super::script::Failure;
 use super::state::State;
-use super::text::text_call;
-use super::{line, script, state};
+use super::text::{plan_call, read_call, roll_call, write_call};
 use grid::{Answer, Size};
 use report::Report;
-use std::io;
 use std::io::Read;
 
-// Makes a call on the bytes and entries in use.
-pub fn answer_call(
+// Makes a call on the bytes and entries in use, and prints its line.
+pub fn answer(
     input: &mut impl Read,
     out: &impl Print,
     bitmap: &[u8],
     table: &mut [u16],
     state: State,
-) -> io::Result<bool> {
-    let bytes = state::within(state.bytes, bitmap.len());
-    let entries = state::within(state.entries, table.len());
-    call(input, out, &bitmap[0..bytes], &mut table[0..entries], state)
-}
-
-fn call(
-    input: &mut impl Read,
-    out: &impl Print,
-    bitmap: &[u8],
-    table: &mut [u16],
-    state: State,
-) -> io::Result<bool> {
-    let right = make(input, out, bitmap, table, state)?;
-    if right {
-        line::end(out, digest_of(table))?;
-    }
-    Ok(right)
+    call: Call,
+) -> Result<(), Failure> {
+    let bytes = state.bytes.min(bitmap.len());
+    let entries = state.entries.min(table.len());
+    let table = &mut table[..entries];
+    make(input, out, &bitmap[..bytes], table, state, call)?;
+    line::end(out, digest_of(table))?;
+    Ok(())
 }
 
 fn make(
@@ -43,72 +34,43 @@ fn make(
     bitmap: &[u8],
     table: &mut [u16],
     state: State,
-) -> io::Result<bool> {
-    let letter = state.letter;
-    match letter {
-        b'T' => trace_call(out, bitmap, table, state),
-        b'N' => counts_call(out, bitmap, table, state),
-        b'H' => held_call(out, bitmap, table, state),
-        b'S' => smooth_call(out, bitmap, table, state),
-        b'Y' => simplify_call(out, bitmap, table, state),
-        b'A' => areas_call(out, bitmap, table, state),
-        _ => text_call(input, out, bitmap, table, state),
-    }
-}
-
-fn trace_call(
-    out: &impl Print,
-    bitmap: &[u8],
-    table: &mut [u16],
-    state: State,
-) -> io::Result<bool> {
-    let traced = trace::trace(state.w, state.h, bitmap, table);
-    line::begin(out, state.letter, report::traced_report(traced))
-}
-
-fn counts_call(out: &impl Print, bitmap: &[u8], table: &[u16], state: State) -> io::Result<bool> {
-    let counted = trace::counts(state.w, state.h, bitmap, table);
-    line::begin(out, state.letter, report::counted_report(counted))
-}
-
-fn size_of(state: State) -> Size {
-    Size {
-        width: state.w as usize,
-        height: state.h as usize,
-    }
+    call: Call,
+) -> Result<(), Failure> {
+    let (w, h) = (state.w, state.h);
+    let report = match call {
+        Call::Trace => report::traced_report(trace::trace(w, h, bitmap, table)),
+        Call::Counts => report::counted_report(trace::counts(w, h, bitmap, table)),
+        Call::Held => held_report(w, h, bitmap, table),
+        Call::Smooth { limit } => {
+            report::smoothed_report(smooth::smooth(w, h, bitmap, table, limit))
+        }
+        Call::Simplify { t } => {
+            report::simplified_report(simplify::simplify(w, h, bitmap, table, t))
+        }
+        Call::Roll { t } => return roll_call(input, out, bitmap, table, state, call, t),
+        Call::ReadSheet => return read_call(input, out, bitmap, table, state, call),
+        Call::WriteSheet { length } => {
+            return write_call(out, bitmap, table, state, call, length);
+        }
+        Call::Plan { items, floats } => {
+            return plan_call(out, bitmap, table, state, call, items, floats);
+        }
+        Call::Areas { areas, sums } => {
+            return areas_call(out, bitmap, table, state, call, areas, sums);
+        }
+    };
+    line::begin(out, call, report)?;
+    Ok(())
 }
 
 // Questions put to a layer have no figures.
-fn report_of(answer: Answer) -> Report {
-    match answer {
+fn held_report(w: u16, h: u16, bitmap: &[u8], table: &[u16]) -> Report {
+    let size = Size {
+        width: usize::from(w),
+        height: usize::from(h),
+    };
+    match held::ask_layer_held(size, bitmap, table) {
         Answer::Yes => report::done_report(0, 0, 0),
         Answer::No(q, place) => report::refused_report(q, place),
     }
-}
-
-fn held_call(out: &impl Print, bitmap: &[u8], table: &[u16], state: State) -> io::Result<bool> {
-    let answer = held::ask_layer_held(size_of(state), bitmap, table);
-    line::begin(out, state.letter, report_of(answer))
-}
-
-fn smooth_call(
-    out: &impl Print,
-    bitmap: &[u8],
-    table: &mut [u16],
-    state: State,
-) -> io::Result<bool> {
-    let limit = script::low(state.first);
-    let smoothed = smooth::smooth(state.w, state.h, bitmap, table, limit);
-    line::begin(out, state.letter, report::smoothed_report(smoothed))
-}
-
-fn simplify_call(
-    out: &impl Print,
-    bitmap: &[u8],
-    table: &mut [u16],
-    state: State,
-) -> io::Result<bool> {
-    let t = script::lowest(state.first);
-    let simplified = simplify::simplify(state.w, state.h, bitmap, table, t);
-    line::begin(out, state.letter, report::simplified_report(simplified))
 }

@@ -1,102 +1,46 @@
 // The digest of a table or of an output: a number below 2^31 - 1 that tells them apart well enough.
 // For tables and bytes the contract says what it is.
-ghost use Rattle.std.specs.Prelude.{◌≡◌, ◌<◌};
+ghost use Rattle.std.specs.Prelude.{◌≡◌};
 ghost use Rattle.vectors.specs.Digest.{mixed, digest_of};
 
-fn mix(h: usize, x: usize) -> usize
-    requires h_bound { h < 2147483647 }
-    requires x_bound { x < 65536 }
+fn mix(h: u32, x: u16) -> u32
     ensures { result ≡ mixed h x }
 {
-    (h * 65599 + x + 1) % 2147483647
+    ((u64::from(h) * 65599 + u64::from(x) + 1) % 2147483647) as u32
 }
 
-fn mix_entry(h: usize, x: u16) -> usize
-    requires { h < 2147483647 }
-    ensures { result ≡ mixed h x }
-{
-    mix(h, x as usize)
-}
-
-pub fn digest_of(table: &[u16]) -> usize
-    ensures { result ≡ digest_of table.now }
-{
-    let mut h = 1;
-    let mut i = 0;
-    while i < table.len() {
-        h = mix_entry(h, table[i]);
-        i += 1;
-    }
-    h
-}
-
-fn mix_byte(h: usize, x: u8) -> usize
-    requires { h < 2147483647 }
-    ensures { result ≡ mixed h x }
-{
-    mix(h, x as usize)
-}
-
-pub fn digest_bytes(bytes: &[u8]) -> usize
-    ensures { result ≡ digest_of bytes.now }
-{
-    let mut h = 1;
-    let mut i = 0;
-    while i < bytes.len() {
-        h = mix_byte(h, bytes[i]);
-        i += 1;
-    }
-    h
+// A number of 64 bits goes in by its four pieces of 16 bits, the lowest first.
+fn mix_bits(h: u32, bits: u64) -> u32 {
+    let [a, b, c, d, e, f, g, i] = bits.to_le_bytes();
+    let h = mix(h, u16::from_le_bytes([a, b]));
+    let h = mix(h, u16::from_le_bytes([c, d]));
+    let h = mix(h, u16::from_le_bytes([e, f]));
+    mix(h, u16::from_le_bytes([g, i]))
 }
 
 // The bit pattern of a float, 0 for one that is no number.
 fn bits_of(x: f64) -> u64 {
-    if x != x {
-        return 0;
-    }
-    f64::to_bits(x)
+    if x.is_nan() { 0 } else { x.to_bits() }
 }
 
-// A bit pattern goes in by its four pieces of 16 bits, the lowest first.
-fn mix_bits(h: usize, bits: usize) -> usize
-    requires { h < 2147483647 }
-    ensures { result < 2147483647 }
+pub fn digest_of(table: &[u16]) -> u32
+    ensures { result ≡ digest_of table.now }
 {
-    let low = mix(mix(h, bits % 65536), bits / 65536 % 65536);
-    mix(mix(low, bits / 4294967296 % 65536), bits / 281474976710656)
+    table.iter().fold(1, |h, x| mix(h, *x))
 }
 
-fn mix_float(h: usize, x: f64) -> usize
-    requires { h < 2147483647 }
-    ensures { result < 2147483647 }
+pub fn digest_bytes(bytes: &[u8]) -> u32
+    ensures { result ≡ digest_of bytes.now }
 {
-    mix_bits(h, bits_of(x) as usize)
+    bytes.iter().fold(1, |h, x| mix(h, u16::from(*x)))
 }
 
-pub fn digest_floats(floats: &[f64]) -> usize {
-    let mut h = 1;
-    let mut i = 0;
-    while i < floats.len() {
-        h = mix_float(h, floats[i]);
-        i += 1;
-    }
-    h
+pub fn digest_floats(floats: &[f64]) -> u32 {
+    floats.iter().fold(1, |h, x| mix_bits(h, bits_of(*x)))
 }
 
-fn mix_signed(h: usize, x: i64) -> usize
-    requires { h < 2147483647 }
-    ensures { result < 2147483647 }
-{
-    mix_bits(h, report::figure_of(x))
-}
-
-pub fn digest_signed(numbers: &[i64]) -> usize {
-    let mut h = 1;
-    let mut i = 0;
-    while i < numbers.len() {
-        let x = numbers[i];
-        h = mix_signed(h, x);
-        i += 1;
-    }
-    h
+pub fn digest_signed(numbers: &[i64]) -> u32 {
+    numbers
+        .iter()
+        .fold(1, |h, x| mix_bits(h, x.cast_unsigned()))
 }

@@ -11,6 +11,9 @@ mod script;
 mod state;
 mod text;
 
+use command::Command;
+use script::Failure;
+use state::State;
 use std::io;
 use std::io::Read;
 
@@ -28,22 +31,23 @@ fn run(
     out: &impl Print,
     bitmap: &mut [u8],
     table: &mut [u16],
-) -> io::Result<()> {
-    let mut state = state::start();
-    let mut left = COMMAND_LIMIT;
-    while left > 0 {
-        let next = state::next(input, state)?;
-        state = command::carry_out(input, out, bitmap, table, next)?;
-        if state.letter == 0 {
+) -> Result<(), Failure> {
+    let mut state = State::default();
+    for _ in 0..COMMAND_LIMIT {
+        let Some(command) = Command::take(input)? else {
             return Ok(());
-        }
-        left -= 1;
+        };
+        state.carry_out(input, out, bitmap, table, command)?;
     }
-    line::wrong(out)
+    Err(Failure::Wrong)
 }
 
 fn main(rt: HostRuntime) -> io::Result<()> {
     let mut bitmap = [0u8; BITMAP_LIMIT];
     let mut table = [0u16; TABLE_LIMIT];
-    run(&mut rt.stdin(), &rt, &mut bitmap, &mut table)
+    match run(&mut rt.stdin(), &rt, &mut bitmap, &mut table) {
+        Ok(()) => Ok(()),
+        Err(Failure::Wrong) => println!(rt; "?"),
+        Err(Failure::Io(error)) => Err(error),
+    }
 }

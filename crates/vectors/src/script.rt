@@ -1,60 +1,57 @@
-// The numbers and bytes of a script, from standard input. A number has its lowest byte first.
-ghost use Rattle.std.specs.Prelude.{◌≤◌};
+// The numbers and bytes of a script, from standard input, and what can be wrong with one. A number has its lowest byte first.
+ghost use Rattle.std.specs.Prelude.{◌≤◌, IfOk, length};
 
 use std::io;
 use std::io::{ErrorKind, Read};
 
-// More than any number of a script, and more than any place has room for: the script is cut short.
-pub const CUT: usize = 4294967296;
-
-fn number_of(b: [u8; 4]) -> usize {
-    b[0] as usize | (b[1] as usize) << 8 | (b[2] as usize) << 16 | (b[3] as usize) << 24
+// Why the commands end before the end of a script: reading or printing failed, or the script is wrong.
+#[derive(Drop)]
+pub enum Failure {
+    Io(io::Error),
+    Wrong,
 }
 
-// Fills a place. It says false if the script is cut short.
-fn take(input: &mut impl Read, place: &mut [u8]) -> io::Result<bool> {
+impl From<io::Error> for Failure {
+    fn from(error: io::Error) -> Failure {
+        Failure::Io(error)
+    }
+}
+
+// Fills a place. A script that is cut short is wrong.
+fn fill(input: &mut impl Read, place: &mut [u8]) -> Result<(), Failure> {
     match input.read_exact(place) {
-        Ok(()) => Ok(true),
-        Err(e) if e.kind() == ErrorKind::UnexpectedEof => Ok(false),
-        Err(e) => Err(e),
+        Ok(()) => Ok(()),
+        Err(e) if e.kind() == ErrorKind::UnexpectedEof => Err(Failure::Wrong),
+        Err(e) => Err(Failure::Io(e)),
     }
 }
 
-// A number of n bytes.
-pub fn take_number(input: &mut impl Read, n: usize) -> io::Result<usize>
-    requires { n ≤ 4 }
+pub fn take_u8(input: &mut impl Read) -> Result<u8, Failure> {
+    let mut bytes = [0; 1];
+    fill(input, &mut bytes)?;
+    Ok(bytes[0])
+}
+
+pub fn take_u16(input: &mut impl Read) -> Result<u16, Failure> {
+    let mut bytes = [0; 2];
+    fill(input, &mut bytes)?;
+    Ok(u16::from_le_bytes(bytes))
+}
+
+pub fn take_u32(input: &mut impl Read) -> Result<u32, Failure> {
+    let mut bytes = [0; 4];
+    fill(input, &mut bytes)?;
+    Ok(u32::from_le_bytes(bytes))
+}
+
+// Takes a count and so many bytes to the start of a place, which has to have room for them, and answers the count.
+pub fn take_bytes(input: &mut impl Read, place: &mut [u8]) -> Result<usize, Failure>
+    ensures { IfOk result (λ n. n ≤ length place.new) }
 {
-    let mut b = [0u8; 4];
-    if take(input, &mut b[0..n])? {
-        Ok(number_of(b))
-    } else {
-        Ok(CUT)
-    }
-}
-
-// Takes a count and so many bytes to the start of a place, and answers the count. It is more than the place has if the place
-// has no room for them or if the script is cut short.
-pub fn take_bytes(input: &mut impl Read, place: &mut [u8]) -> io::Result<usize> {
-    let n = take_number(input, 4)?;
+    let n = take_u32(input)? as usize;
     if n > place.len() {
-        return Ok(n);
+        return Err(Failure::Wrong);
     }
-    if take(input, &mut place[0..n])? {
-        Ok(n)
-    } else {
-        Ok(CUT)
-    }
-}
-
-// The two halves of a number of four bytes, and its lowest byte.
-pub fn low(n: usize) -> u16 {
-    (n % 65536) as u16
-}
-
-pub fn high(n: usize) -> u16 {
-    (n / 65536 % 65536) as u16
-}
-
-pub fn lowest(n: usize) -> u8 {
-    (n % 256) as u8
+    fill(input, &mut place[..n])?;
+    Ok(n)
 }

@@ -3,11 +3,8 @@ use mathlib.Core.Path.{◌≡◌, sym, ◌∙◌}
 use mathlib.Core.Bool.{true, true≢false}
 use Rattle.grid.specs.Layer.{layer_of}
 use Rattle.edit.specs.Edits.{may_move}
-use Rattle.edit.proofs.Asked.{editable, named-entry, pinned-no, unpinned-yes, removal-pinned, removal-missed, removal-far, removal-done, removal-third-left}
+use Rattle.edit.proofs.Asked.{editable, pinned-no, unpinned-yes, removal-pinned, removal-missed, removal-far, removal-done, removal-third-left}
 use Rattle.edit.proofs.edit.ask_removal.Goals as goal
-
-pub carries_pin-pinned-requires : goal.carries_pin-pinned-requires
-carries_pin-pinned-requires c = named-entry c.requires
 
 pub returns-then-pinned : goal.returns-then-pinned
 returns-then-pinned c =

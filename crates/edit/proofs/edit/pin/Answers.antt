@@ -1,12 +1,11 @@
 -- `pin` meets its contract.
 use mathlib.Core.Bool.{not}
-use mathlib.Core.Path.{refl, sym, ◌∙◌, ap, subst}
+use mathlib.Core.Path.{refl, ◌∙◌, ap}
 use Rattle.grid.specs.Layer.{layer_of}
 use Rattle.grid.specs.declared.edge.Edge.{Edge}
 use Rattle.table.specs.Vertices.{offset_at}
 use Rattle.table.specs.Stores.{pinned}
-use Rattle.table.specs.Lent.{HasEntry}
-use Rattle.edit.proofs.Asked.{not-kept, is-kept, in_table, pin-none, pin-done}
+use Rattle.edit.proofs.Asked.{not-kept, is-kept, pin-none, pin-done}
 use Rattle.edit.proofs.edit.pin.Goals as goal
 
 pub returns-then-not-carries_kept : goal.returns-then-not-carries_kept
@@ -18,11 +17,6 @@ returns-then-not-carries_kept c =
           pin-none L a.table.now a.place a.stick (not-kept L a.table.now a.stick told (ap not c.if-not-carries_kept.true));
       stored = λ bitmap. refl;
     }
-
-pub pin-requires : goal.pin-requires
-pin-requires c =
-    subst (HasEntry c.args.size c.args.table.now) (sym c.edge_named.ensures)
-    (in_table c.args.stick c.requires (sym c.carries_kept.ensures ∙ c.if-not-carries_kept.false))
 
 pub returns : goal.returns
 unfolding offset_at

@@ -5,10 +5,8 @@ use Rattle.grid.specs.Layer.{layer_of}
 use Rattle.grid.specs.declared.edge.Edge.{Edge}
 use Rattle.table.specs.Vertices.{offset_at}
 use Rattle.table.specs.Stores.{without}
-use Rattle.edit.specs.Edits.{edge_named}
 use Rattle.edit.specs.Chords.{NamedKept}
-use Rattle.edit.proofs.Redrawn.{read_at}
-use Rattle.edit.proofs.Asked.{kept_if, not-kept, named-kept, editable, removal-none}
+use Rattle.edit.proofs.Asked.{not-kept, named-kept, removal-none}
 use Rattle.edit.proofs.edit.remove.Goals as goal
 use Rattle.edit.proofs.edit.remove.Goals.{Else-not-carries_kept}
 
@@ -27,20 +25,6 @@ returns-then-not-carries_kept c =
 
 pub ask_removal-answer-requires : goal.ask_removal-answer-requires
 ask_removal-answer-requires c = here c
-
-pub returns-in_default : goal.returns-in_default
-returns-in_default c =
-    let a = c.args in
-    let L = layer_of a.size a.bitmap.now in
-    record { value = c.ask_removal-answer.ensures; table_after = kept_if (without L a.table.now (edge_named a.stick)) c.in_default.is }
-
-pub remove-requires : goal.remove-requires
-remove-requires c =
-    let here : (let a = c.args in
-    NamedKept (layer_of a.size a.bitmap.now) a.table.now a.stick) =
-    named-kept _ _ c.args.stick c.carries_kept.ensures c.requires (ap not c.if-not-carries_kept.false) in
-    let k = editable here c.edge_named.ensures in
-    read_at k.accepted c.edge_named.result k.drawn.stick
 
 pub returns : goal.returns
 unfolding offset_at

@@ -1,14 +1,14 @@
 -- `joined` meets its contract. That the count of passed sticks fits its type: each gap is no longer than there are edges.
 use native.Mathlib.Omega.{arith}
 use Rattle.table.specs.Vertices.{offset_at}
-use Rattle.edit.proofs.Redrawn.{read_at, walk_from, gaps-small, removal-over}
+use Rattle.edit.proofs.Redrawn.{read_at, not-removed, gaps-small, removal-over}
 use Rattle.edit.proofs.redraw.joined.Goals as goal
 
-pub kept_before-before-requires : goal.kept_before-before-requires
-kept_before-before-requires c = record { lent_at = (walk_from c.requires).0; not_removed = (walk_from c.requires).1 }
+pub kept_before-before-requires-clause-not_removed : goal.kept_before-before-requires-clause-not_removed
+kept_before-before-requires-clause-not_removed c = not-removed c.requires
 
-pub kept_after-after-requires : goal.kept_after-after-requires
-kept_after-after-requires c = record { lent_at = (walk_from c.requires).0; not_removed = (walk_from c.requires).1 }
+pub kept_after-after-requires-clause-not_removed : goal.kept_after-after-requires-clause-not_removed
+kept_after-after-requires-clause-not_removed c = not-removed c.requires
 
 pub vertex_at-requires : goal.vertex_at-requires
 vertex_at-requires c = read_at c.requires.accepted _ c.kept_before-before.ensures.stick

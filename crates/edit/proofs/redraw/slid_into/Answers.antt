@@ -1,10 +1,10 @@
 -- `slid_into` meets its contract.
 use Rattle.table.specs.Vertices.{offset_at}
-use Rattle.edit.proofs.Redrawn.{read_at, walk_from, near-at, inside_of, slide-into}
+use Rattle.edit.proofs.Redrawn.{read_at, not-removed, near-at, inside_of, slide-into}
 use Rattle.edit.proofs.redraw.slid_into.Goals as goal
 
-pub kept_before-before-requires : goal.kept_before-before-requires
-kept_before-before-requires c = record { lent_at = (walk_from c.requires.at).0; not_removed = (walk_from c.requires.at).1 }
+pub kept_before-before-requires-clause-not_removed : goal.kept_before-before-requires-clause-not_removed
+kept_before-before-requires-clause-not_removed c = not-removed c.requires.at
 
 pub vertex_at-requires : goal.vertex_at-requires
 vertex_at-requires c = read_at c.requires.at.accepted _ c.kept_before-before.ensures.stick

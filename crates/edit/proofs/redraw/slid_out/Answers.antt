@@ -1,10 +1,10 @@
 -- `slid_out` meets its contract.
 use Rattle.table.specs.Vertices.{offset_at}
-use Rattle.edit.proofs.Redrawn.{read_at, walk_from, near-at, inside_of, slide-out}
+use Rattle.edit.proofs.Redrawn.{read_at, not-removed, near-at, inside_of, slide-out}
 use Rattle.edit.proofs.redraw.slid_out.Goals as goal
 
-pub kept_after-after-requires : goal.kept_after-after-requires
-kept_after-after-requires c = record { lent_at = (walk_from c.requires.at).0; not_removed = (walk_from c.requires.at).1 }
+pub kept_after-after-requires-clause-not_removed : goal.kept_after-after-requires-clause-not_removed
+kept_after-after-requires-clause-not_removed c = not-removed c.requires.at
 
 pub position_of-requires : goal.position_of-requires
 position_of-requires c = near-at c.requires.at

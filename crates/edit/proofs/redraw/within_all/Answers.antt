@@ -2,30 +2,27 @@
 -- `answer-here` say what a turn learns of its stick.
 use mathlib.Core.Path.{sym, ◌≡◌, ◌∙◌, ap}
 use mathlib.Core.Bool.{true}
+use native.Mathlib.Omega.{arith}
 use Rattle.grid.specs.Layer.{layer_of}
 use Rattle.grid.specs.Edges.{is_stick}
-use Rattle.step.proofs.Following.{on-next, tests-no, tests-turn, tests-end}
+use Rattle.step.proofs.Following.{on-next, tests-no, tests-turn}
 use Rattle.chord.specs.Crossing.{slides_within}
 use Rattle.chord.proofs.Tests.{stick-near}
 use Rattle.table.specs.Vertices.{offset_in, offset_at}
 use Rattle.table.proofs.Lent.{has-entry}
 use Rattle.edit.specs.Chords.{slides_at}
-use Rattle.edit.proofs.Within.{within-start}
+use Rattle.edit.proofs.Within.{within-start, as-many}
 use Rattle.edit.proofs.redraw.within_all.Goals as goal
 
-pub loop-left-init : goal.loop-left-init
-loop-left-init c =
-    within-start _ _ _ _ _ _ _ c.requires.laid.stick
-
-pub next_stick-at-requires : goal.next_stick-at-requires
-next_stick-at-requires c =
-    record { sound = c.requires.laid.sound; stick = c.loop-left.invariant.stick }
+pub loop-init : goal.loop-init
+loop-init c =
+    as-many (within-start _ _ _ _ _ _ _ c.requires.laid.stick) (omega arith)
 
 pub entry_at-requires : goal.entry_at-requires
 entry_at-requires c =
     let stick-here : (let a = c.args in
     is_stick (layer_of a.size a.bitmap.now) c.next_stick-at.result ≡ true) =
-    on-next c.requires.laid.sound _ c.loop-left.invariant.stick c.next_stick-at.ensures in
+    on-next c.requires.laid.sound _ c.loop.invariant.stick c.next_stick-at.ensures in
     let given = c.requires in
     has-entry (record { sound = given.laid.sound; exact = given.exact; stick = stick-here })
 
@@ -33,7 +30,7 @@ pub slides_within-requires : goal.slides_within-requires
 slides_within-requires c =
     let stick-here : (let a = c.args in
     is_stick (layer_of a.size a.bitmap.now) c.next_stick-at.result ≡ true) =
-    on-next c.requires.laid.sound _ c.loop-left.invariant.stick c.next_stick-at.ensures in
+    on-next c.requires.laid.sound _ c.loop.invariant.stick c.next_stick-at.ensures in
     let laid = c.requires.laid in
     record { p_near = laid.p_near; q_near = laid.q_near; near_edge = stick-near _ laid.sound _ stick-here }
 
@@ -44,18 +41,15 @@ returns-then-not-slides_within c =
     c.slides_within.result
     ≡ slides_at (layer_of a.size a.bitmap.now) a.table.now a.t a.c.from a.c.to c.next_stick-at.result) =
     c.slides_within.ensures ∙ ap (slides_within _ _ _ _) (c.offset_in.ensures ∙ ap offset_in c.entry_at.ensures) in
-    tests-no c.loop-left.invariant c.loop-left-test.true c.next_stick-at.ensures
+    tests-no c.loop.invariant (omega arith) c.next_stick-at.ensures
     (sym answer-here ∙ c.if-not-slides_within.true)
 
-pub loop-left-preserved : goal.loop-left-preserved
+pub loop-preserved : goal.loop-preserved
 unfolding offset_at
-loop-left-preserved c =
+loop-preserved c =
     let answer-here : (let a = c.args in
     c.slides_within.result
     ≡ slides_at (layer_of a.size a.bitmap.now) a.table.now a.t a.c.from a.c.to c.next_stick-at.result) =
     c.slides_within.ensures ∙ ap (slides_within _ _ _ _) (c.offset_in.ensures ∙ ap offset_in c.entry_at.ensures) in
-    tests-turn c.loop-left.invariant c.loop-left-test.true c.next_stick-at.ensures
-    c.requires.laid.sound (sym answer-here ∙ c.if-not-slides_within.false)
-
-pub returns : goal.returns
-returns c = tests-end c.loop-left.invariant c.loop-left-test.false
+    as-many (tests-turn c.loop.invariant (omega arith) c.next_stick-at.ensures
+    c.requires.laid.sound (sym answer-here ∙ c.if-not-slides_within.false)) (omega arith)

@@ -1,12 +1,10 @@
 -- `ask_sheet` meets its contract.
 use mathlib.Core.Path.{sym, ◌∙◌}
-use native.Mathlib.Omega.{arith}
 use Rattle.grid.specs.Layer.{layer_of}
 use Rattle.contour.specs.Contours.{first_sticks}
 use Rattle.sheet.specs.Commands.{size_command}
 use Rattle.formed.specs.Expected.{these, sheet_answer}
 use Rattle.formed.specs.Asked.{expected_from}
-use Rattle.formed.proofs.Bytes.{stands-room, size-bytes}
 use Rattle.formed.proofs.Commands.{command-stands, command-wrong}
 use Rattle.formed.proofs.ask.ask_sheet.Goals as goal
 
@@ -17,12 +15,6 @@ returns-then-not-has_size c =
     let L = layer_of a.size a.bitmap.now in
     sym (command-wrong a.sheet.now 0 (these (size_command a.size)) (expected_from L (first_sticks L))
     (sym c.has_size.ensures ∙ c.if-not-has_size.true))
-
-pub ask_contours-requires : goal.ask_contours-requires
-ask_contours-requires c =
-    let a = c.args in
-    let good = sym c.has_size.ensures ∙ c.if-not-has_size.false in
-    record { first_set = c.requires; in_bounds = stands-room a.sheet.now (size_command a.size) 0 (size-bytes a.size) (omega arith) good }
 
 pub returns : goal.returns
 unfolding sheet_answer

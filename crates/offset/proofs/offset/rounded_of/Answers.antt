@@ -6,46 +6,30 @@ use lib.IntN.{pos, ◌*ℤ◌}
 use mir.Syntax.{w64}
 use mir.Val.{to_z, of_z}
 use Rattle.arith.proofs.Bounds.{sized, in-range, exact, within}
-use Rattle.offset.proofs.Division.{above-exact, above-times, rounded-of}
+use Rattle.offset.proofs.Division.{above-exact, above-times, rounded-of, read-back}
 use Rattle.offset.proofs.offset.rounded_of.Goals as goal
-use Rattle.offset.proofs.offset.rounded_of.Goals.{Start}
-
-small : (c : Start) → c.args.old ≤ 255
-small c = omega (arith, c.ranges.old)
-
-pub overflow_mul-d : goal.overflow_mul-d
-overflow_mul-d c = in-range (search sized depth 9) tt
 
 pub overflow_mul-d-2 : goal.overflow_mul-d-2
-overflow_mul-d-2 c = let old-size = small c in in-range (search sized depth 9) tt
-
-pub overflow_mul-n : goal.overflow_mul-n
-overflow_mul-n c = in-range (search sized depth 9) tt
+overflow_mul-d-2 c = let old-size : c.args.old ≤ 255 = omega arith in in-range (search sized depth 9) tt
 
 pub overflow_add-d : goal.overflow_add-d
-overflow_add-d c = let old-size = small c in in-range (search sized depth 9) tt
-
-pub overflow_mul-d-3 : goal.overflow_mul-d-3
-overflow_mul-d-3 c = in-range (search sized depth 9) tt
+overflow_add-d c = let old-size : c.args.old ≤ 255 = omega arith in in-range (search sized depth 9) tt
 
 pub nearest_div-requires : goal.nearest_div-requires
 nearest_div-requires c =
-    let old-size = small c in
+    let old-size : c.args.old ≤ 255 = omega arith in
     record {
       n_size = within (search sized depth 9) tt;
       d_size = within (search sized depth 9) tt;
       above = above-exact (search sized depth 9) tt (above-times 5 (omega arith) c.args.d c.requires.above);
     }
 
-pub returns : goal.returns
-returns c =
+pub returns-clause-value : goal.returns-clause-value
+returns-clause-value c =
     let a = c.args in
     let given = c.requires in
-    let old-size = small c.before in
-    let r-size = c.nearest_div.ensures.result_bound in
-    let back = exact {z = to_z w64 (of_z w64 c.nearest_div.result)} (search sized depth 9) tt in
-    let is =
-    c.nearest_div.ensures.value
+    let old-size : c.args.old ≤ 255 = omega arith in
+    read-back c.nearest_div.result c.nearest_div.type_inv
+    ∙ c.nearest_div.ensures.value
     ∙ rounded-of {y = to_z w64 (of_z w64 (pos 5 *ℤ to_z w64 (of_z w64 a.d)))} a.old a.n a.d given.above
-    (exact (search sized depth 9) tt) (exact (search sized depth 9) tt) in
-    record { value = back ∙ is; result_bound = rw back r-size }
+    (exact (search sized depth 9) tt) (exact (search sized depth 9) tt)

@@ -5,36 +5,20 @@ use native.Mathlib.Omega.{arith}
 use lib.IntN.{pos, ◌+ℤ◌, ◌-ℤ◌, ◌*ℤ◌}
 use Rattle.arith.proofs.Bounds.{sized, in-range, exact, within}
 use Rattle.offset.proofs.offset.shift_of.Goals as goal
-use Rattle.offset.proofs.offset.shift_of.Goals.{Start}
-
-small : (c : Start) → c.args.old ≤ 255
-small c = omega (arith, c.ranges.old)
-
-pub overflow_sub-ahead : goal.overflow_sub-ahead
-overflow_sub-ahead c = in-range (search sized depth 9) tt
-
-pub overflow_sub-ahead-2 : goal.overflow_sub-ahead-2
-overflow_sub-ahead-2 c = let old-size = small c.before.before.before.before in in-range (search sized depth 9) tt
-
-pub overflow_sub-turn : goal.overflow_sub-turn
-overflow_sub-turn c = in-range (search sized depth 9) tt
-
-pub overflow_sub-before : goal.overflow_sub-before
-overflow_sub-before c = in-range (search sized depth 9) tt
 
 pub overflow_mul-result : goal.overflow_mul-result
-overflow_mul-result c = let old-size = small c.before.before.before.before.before.before.before.before.before.before.before in in-range (search sized depth 9) tt
+overflow_mul-result c = let old-size : c.args.old ≤ 255 = omega arith in in-range (search sized depth 9) tt
 
 pub overflow_mul-result-2 : goal.overflow_mul-result-2
 overflow_mul-result-2 c = in-range (search sized depth 9) tt
 
 pub overflow_add-result : goal.overflow_add-result
-overflow_add-result c = let old-size = small c.before.before.before.before.before.before.before.before.before.before.before in in-range (search sized depth 9) tt
+overflow_add-result c = let old-size : c.args.old ≤ 255 = omega arith in in-range (search sized depth 9) tt
 
 pub returns : goal.returns
 returns c =
     let old = c.args.old in
-    let old-size = small c.before.before.before.before.before.before.before.before.before.before.before in
+    let old-size : old ≤ 255 = omega arith in
     let u = c.signed-from.ensures.value ∙ ap pos c.along_of.ensures.value in
     let o = c.signed.ensures.value ∙ ap pos c.base_of.ensures.value in
     let w = c.signed-2.ensures.value ∙ ap pos c.along_of-2.ensures.value in

@@ -1,16 +1,18 @@
--- `fill_table` meets its contract.
-use mathlib.Core.Path.{ap, ◌∙◌}
-use Prim.Native.Nat.{ℕ}
-use Rattle.arith.specs.Ranges.{fill}
-use Rattle.arith.proofs.Ranges.{fill-all}
-use Rattle.grid.specs.Edges.{edge_count}
+-- `fill_table` meets its contract: a table of zeros has no entries.
+use mathlib.Core.Path.{◌≡◌, refl, ap, ◌∙◌}
+use mathlib.Core.List.{List, ◌∷◌}
+use Prim.Native.Nat.{ℕ, zero, suc}
+use lib.ListN.{replicate}
+use Rattle.arith.specs.Ranges.{tabulate_from}
 use Rattle.reading.proofs.fill.fill_table.Goals as goal
+
+zeros : (i n : ℕ) → replicate n 0 ≡ tabulate_from (λ k. 0) i n
+unfolding tabulate_from
+zeros i zero = refl
+zeros i (suc n) = ap (λ (l : List ℕ). 0 ∷ l) (zeros (suc i) n)
 
 pub store_contours-requires : goal.store_contours-requires
 store_contours-requires c =
-    let a = c.args in
     let given = c.requires in
-    let exact = given.table_len in
-    let none = c.clear.ensures ∙ ap (λ (n : ℕ). fill (λ k. 0) 0 n a.table.now) exact ∙ fill-all (λ k. 0)
-    (edge_count a.size) a.table.now exact in
+    let none = c.fill.ensures.after (λ y e. e) ∙ ap (λ (n : ℕ). replicate n 0) given.table_len ∙ zeros 0 _ in
     record { first_set = given.first_set; formed = given.formed; empty = none }

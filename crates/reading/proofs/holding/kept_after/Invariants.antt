@@ -4,8 +4,8 @@ use Rattle.grid.specs.Edges.{edge_count}
 use Rattle.reading.proofs.Asking.{Seeking}
 use Rattle.reading.proofs.holding.kept_after.Given as goal
 
-abbrev pub invariant-loop-size : goal.invariant-loop-size
-invariant-loop-size l = Seeking (layer_of l.size l.bitmap) l.sheet l.first l.initial.at l.at l.gap
+abbrev pub invariant-loop-at : goal.invariant-loop-at
+invariant-loop-at l = Seeking (layer_of l.size l.bitmap) l.sheet l.first l.initial.at l.at l.gap
 
-abbrev pub decreases-loop-size : goal.decreases-loop-size
-decreases-loop-size l = edge_count l.size - l.gap
+abbrev pub decreases-loop-at : goal.decreases-loop-at
+decreases-loop-at l = edge_count l.size - l.gap

@@ -17,8 +17,7 @@ pub returns-in_default : goal.returns-in_default
 returns-in_default c =
     let at = c.loop-at.at in
     let r = c.args.roll.now in
-    let rest = c.in_default.in_default-own.rest in
-    formed-wrong r at (at_other r at rest.0.0.0.1 rest.0.0.1 rest.0.1 rest.1) ∙ c.loop-at.invariant.1
+    formed-wrong r at (at_other r at (omega arith) (omega arith) (omega arith) (omega arith)) ∙ c.loop-at.invariant.1
 
 pub returns-then-length-at : goal.returns-then-length-at
 returns-then-length-at c =
@@ -31,14 +30,6 @@ returns-then-length-at c =
       | goal.in-88 w ↦ at-removal-cut r at w.in-88.is (omega (arith, w.width-is))
       | goal.in-80 w ↦ at-pin-cut r at w.in-80.is (omega (arith, w.width-is))
     ]) ∙ c.loop-at.invariant.1
-
-pub loop-at-smaller : goal.loop-at-smaller
-loop-at-smaller c =
-    elim c.match-byte.branch [
-      | goal.in-83 w ↦ omega (arith, w.width-is)
-      | goal.in-88 w ↦ omega (arith, w.width-is)
-      | goal.in-80 w ↦ omega (arith, w.width-is)
-    ]
 
 pub loop-at-preserved : goal.loop-at-preserved
 loop-at-preserved c =

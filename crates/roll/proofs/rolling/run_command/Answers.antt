@@ -1,5 +1,6 @@
 -- `run_command` meets its contract.
 use mathlib.Core.Path.{◌∙◌}
+use native.Mathlib.Omega.{arith}
 use Rattle.roll.proofs.Forms.{at_other}
 use Rattle.roll.proofs.Steps.{formed_below, slide-readable, removal-readable, pin-readable, slide-here, removal-here, pin-here, end-here, step_is}
 use Rattle.roll.proofs.rolling.run_command.Goals as goal
@@ -36,6 +37,5 @@ returns-in-69 c =
 pub returns-in_default : goal.returns-in_default
 returns-in_default c =
     let a = c.args in
-    let rest = c.in_default.in_default-own.rest in
     step_is _ a.t a.roll.now a.at a.table.now
-    (at_other a.roll.now a.at rest.0.0.0.1 rest.0.0.1 rest.0.1 rest.1)
+    (at_other a.roll.now a.at (omega arith) (omega arith) (omega arith) (omega arith))

@@ -1,14 +1,12 @@
--- `stick_after` meets its contract. The invariant: so many steps on from here as are left is where the walk ends.
-use mathlib.Core.Path.{refl}
-use Rattle.run.proofs.Steps.{steps-turn, steps-end}
+-- `stick_after` meets its contract. The invariant: the walk is as many steps on as it has turned.
+use Rattle.run.proofs.Steps.{no_steps, step-more, stick-on}
 use Rattle.run.proofs.walk.stick_after.Goals as goal
 
-pub loop-left-init : goal.loop-left-init
-loop-left-init c = record { stick = c.requires.stick; same = refl }
+pub loop-init : goal.loop-init
+loop-init c = no_steps _ _
 
-pub loop-left-preserved : goal.loop-left-preserved
-loop-left-preserved c =
-    steps-turn c.loop-left.invariant c.requires.sound c.loop-left-test.true c.next_stick-at.ensures
+pub next_stick-at-requires-clause-stick : goal.next_stick-at-requires-clause-stick
+next_stick-at-requires-clause-stick c = let given = c.requires in stick-on _ _ _ given.sound given.stick c.loop.invariant
 
-pub returns : goal.returns
-returns c = steps-end c.loop-left.invariant c.loop-left-test.false
+pub loop-preserved : goal.loop-preserved
+loop-preserved c = step-more _ _ _ c.loop.invariant c.next_stick-at.ensures

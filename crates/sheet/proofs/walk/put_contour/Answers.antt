@@ -1,21 +1,24 @@
--- `put_contour` meets its contract.
+-- `put_contour` meets its contract. The bytes of the command, and those of the vertices after it, are the contour's.
+use mathlib.Core.Path.{ap, ◌∙◌}
 use Prim.Native.Nat.{◌+◌}
 use native.Mathlib.Omega.{arith}
+use lib.Seq.{sets}
 use Rattle.grid.specs.Layer.{layer_of}
 use Rattle.sheet.specs.Commands.{contour_command}
 use Rattle.sheet.specs.Written.{contour_vertices, contour_bytes}
 use Rattle.sheet.proofs.Stored.{sets-two, stored-length}
 use Rattle.sheet.proofs.walk.put_contour.Goals as goal
 
-pub put_first-requires : goal.put_first-requires
+pub put_bytes-requires : goal.put_bytes-requires
 unfolding contour_bytes
-put_first-requires c = omega (arith, c.requires.room)
+put_bytes-requires c = rw c.contour_command.ensures (omega (arith, c.requires.room))
 
 pub put_vertices-requires : goal.put_vertices-requires
 unfolding contour_bytes
 put_vertices-requires c =
     let a = c.args in
-    record { lent_at = c.requires.lent_at; room = omega (arith, c.requires.room, stored-length a.sheet.now a.at (contour_command a.first) c.put_first.ensures) }
+    let opened = c.put_bytes.ensures ∙ ap (sets a.sheet.now a.at) c.contour_command.ensures in
+    record { lent_at = c.requires.lent_at; room = omega (arith, c.requires.room, stored-length a.sheet.now a.at (contour_command a.first) opened) }
 
 pub returns : goal.returns
 unfolding contour_bytes
@@ -23,8 +26,8 @@ returns c =
     let vertices = c.put_vertices.ensures in
     let a = c.args in
     let l = contour_vertices (layer_of a.size a.bitmap.now) a.table.now a.first in
+    let opened = c.put_bytes.ensures ∙ ap (sets a.sheet.now a.at) c.contour_command.ensures in
     record {
-      bytes =
-          sets-two (contour_command a.first) l a.sheet.now a.at (a.at + 6) c.put_first.ensures vertices.bytes (omega arith);
+      bytes = sets-two (contour_command a.first) l a.sheet.now a.at (a.at + 6) opened vertices.bytes (omega arith);
       after = omega (arith, vertices.after);
     }

@@ -1,5 +1,7 @@
--- `put_sheet` meets its contract.
+-- `put_sheet` meets its contract: the size command, the contours and the end, stored one after the other. `opened` is the first of them.
+use mathlib.Core.Path.{ap, ◌∙◌}
 use native.Mathlib.Omega.{arith}
+use lib.Seq.{sets}
 use Rattle.grid.specs.Layer.{layer_of}
 use Rattle.sheet.specs.Commands.{size_command, end_command}
 use Rattle.sheet.specs.Written.{all_contours, sheet_of}
@@ -7,24 +9,26 @@ use Rattle.sheet.proofs.Stored.{stored-length, sets-three}
 use Rattle.sheet.proofs.Counted.{sheet-parts}
 use Rattle.sheet.proofs.write.put_sheet.Goals as goal
 
-pub put_size-requires : goal.put_size-requires
-put_size-requires c =
+pub put_bytes-requires : goal.put_bytes-requires
+put_bytes-requires c =
     let a = c.args in
-    omega (arith, c.requires.room, sheet-parts (layer_of a.size a.bitmap.now) a.table.now)
+    rw c.size_command.ensures (omega (arith, c.requires.room, sheet-parts (layer_of a.size a.bitmap.now) a.table.now))
 
 pub put_contours-end-requires : goal.put_contours-end-requires
 put_contours-end-requires c =
     let a = c.args in
     let L = layer_of a.size a.bitmap.now in
-    let same = stored-length a.sheet.now 0 (size_command a.size) c.put_size.ensures in
+    let opened = c.put_bytes.ensures ∙ ap (sets a.sheet.now 0) c.size_command.ensures in
+    let same = stored-length a.sheet.now 0 (size_command a.size) opened in
     record { lent = c.requires.lent; first_set = c.requires.first_set; room = omega (arith, c.requires.room, sheet-parts L a.table.now, same) }
 
-pub put_byte-requires : goal.put_byte-requires
-put_byte-requires c =
+pub put_bytes-requires-2 : goal.put_bytes-requires-2
+put_bytes-requires-2 c =
     let a = c.args in
     let L = layer_of a.size a.bitmap.now in
     let put = c.put_contours-end.ensures in
-    let same = stored-length a.sheet.now 0 (size_command a.size) c.put_size.ensures in
+    let opened = c.put_bytes.ensures ∙ ap (sets a.sheet.now 0) c.size_command.ensures in
+    let same = stored-length a.sheet.now 0 (size_command a.size) opened in
     let still = stored-length _ 5 (all_contours L a.table.now) put.bytes in
     omega (arith, c.requires.room, sheet-parts L a.table.now, put.after, same, still)
 
@@ -33,5 +37,6 @@ unfolding sheet_of
 returns c =
     let a = c.args in
     let put = c.put_contours-end.ensures in
+    let opened = c.put_bytes.ensures ∙ ap (sets a.sheet.now 0) c.size_command.ensures in
     sets-three (size_command a.size) (all_contours (layer_of a.size a.bitmap.now) a.table.now) end_command a.sheet.now 0 5 _
-    c.put_size.ensures put.bytes c.put_byte.ensures (omega arith) put.after
+    opened put.bytes c.put_bytes-2.ensures (omega arith) put.after

@@ -19,17 +19,8 @@ few-sticks c =
       edges-small a.size c.requires.sound.whole.sized,
     )
 
-pub overflow_mul-result : goal.overflow_mul-result
-overflow_mul-result c = omega (arith, c.contours_in.ensures.upper_bound)
-
-pub overflow_add-result : goal.overflow_add-result
-overflow_add-result c = omega (arith, c.contours_in.ensures.upper_bound)
-
 pub overflow_mul-result-2 : goal.overflow_mul-result-2
 overflow_mul-result-2 c = omega (arith, few-sticks c)
 
 pub overflow_add-result-2 : goal.overflow_add-result-2
 overflow_add-result-2 c = omega (arith, c.contours_in.ensures.upper_bound, few-sticks c)
-
-pub returns : goal.returns
-returns c = omega (arith, c.contours_in.ensures.value, c.stick_count.ensures)

@@ -8,12 +8,6 @@ use Rattle.sheet.proofs.write.write_sheet.Goals as goal
 pub ask_held_firsts-answer-requires : goal.ask_held_firsts-answer-requires
 ask_held_firsts-answer-requires c = empty-set
 
-pub write_held-requires : goal.write_held-requires
-write_held-requires c =
-    let asked = c.ask_held_firsts-answer.ensures in
-    let yes = c.in-Yes.is in
-    record { held = sym asked.value ∙ yes; first_set = asked.first_set yes }
-
 pub returns-in-No : goal.returns-in-No
 returns-in-No c =
     let a = c.args in

@@ -1,24 +1,14 @@
--- `slice` meets its contract. `command` and `long` say what the first test learns; each way out then cites the law of Answers for its case:
--- no command, sides that do not fit, or a layer.
-use mathlib.Core.Path.{◌≡◌, sym, ap, ◌∙◌}
-use mathlib.Core.Bool.{true}
+-- `slice` meets its contract. Each way out cites the law of Answers for its case: no command, sides that do not fit, or a layer. Where there is
+-- a command, it is five bytes long.
+use mathlib.Core.Path.{sym, ap, ◌∙◌}
 use mathlib.Core.List.{List}
-use Prim.Native.Nat.{ℕ, ◌≤◌}
+use Prim.Native.Nat.{ℕ}
 use native.Mathlib.Omega.{arith}
 use borrow.Author.Rules.{rules}
-use lib.ListN.{length}
 use Rattle.grid.specs.Layer.{layer_of, size_of}
-use Rattle.slicing.specs.Slice.{command_length, whole_command, layer_bytes, stored}
+use Rattle.slicing.specs.Slice.{layer_bytes, stored}
 use Rattle.slicing.proofs.Answers.{after-command, command-long, no-command, bad-sides, good-sides}
 use Rattle.slicing.proofs.call.slice.Goals as goal
-use Rattle.slicing.proofs.call.slice.Goals.{Else-not-has_command}
-
--- past the first test there is a command, and it is five bytes long
-command : (c : Else-not-has_command) → whole_command c.args.input.now ≡ true
-command c = sym c.has_command.ensures ∙ c.if-not-has_command.false
-
-long : (c : Else-not-has_command) → command_length ≤ length c.args.input.now
-long c = command-long c.args.input.now (command c)
 
 pub returns-then-not-has_command : goal.returns-then-not-has_command
 returns-then-not-has_command c =
@@ -27,42 +17,31 @@ returns-then-not-has_command c =
     c.refuse.ensures ∙ ap (stored a.output.now) (sym (no-command a.input.now none))
 
 pub number_at-w-requires : goal.number_at-w-requires
-number_at-w-requires c = omega (arith, long c)
+number_at-w-requires c =
+    let long = command-long c.args.input.now (sym c.has_command.ensures ∙ c.if-not-has_command.false) in
+    omega arith
 
 pub number_at-h-requires : goal.number_at-h-requires
 number_at-h-requires c =
-    let command : whole_command c.args.input.now ≡ true =
-    sym c.has_command.ensures ∙ c.if-not-has_command.false in
-    let long : command_length ≤ length c.args.input.now =
-    command-long c.args.input.now command in
-    omega (arith, long)
+    let long = command-long c.args.input.now (sym c.has_command.ensures ∙ c.if-not-has_command.false) in
+    omega arith
 
 pub returns-then-not-sides_fit : goal.returns-then-not-sides_fit
 returns-then-not-sides_fit c =
-    let command : whole_command c.args.input.now ≡ true =
-    sym c.has_command.ensures ∙ c.if-not-has_command.false in
-    let a = c.args in
+    let command = sym c.has_command.ensures ∙ c.if-not-has_command.false in
     let bad = sym c.sides_fit.ensures ∙ c.if-not-sides_fit.true in
-    c.refuse-then-not-sides_fit.ensures
-    ∙ ap (stored a.output.now)
-    (sym (bad-sides a.input.now c.number_at-w.result c.number_at-h.result command
-    c.number_at-w.ensures c.number_at-h.ensures bad))
+    let a = c.args in
+    let refused =
+    bad-sides a.input.now c.number_at-w.result c.number_at-h.result command c.number_at-w.ensures c.number_at-h.ensures bad in
+    c.refuse-then-not-sides_fit.ensures ∙ ap (stored a.output.now) (sym refused)
 
 pub slice_bounds-slice_layer-count : goal.slice_bounds-slice_layer-count
-slice_bounds-slice_layer-count c =
-    let command : whole_command c.args.input.now ≡ true =
-    sym c.has_command.ensures ∙ c.if-not-has_command.false in
-    let long : command_length ≤ length c.args.input.now =
-    command-long c.args.input.now command in
-    long
+slice_bounds-slice_layer-count c = command-long c.args.input.now (sym c.has_command.ensures ∙ c.if-not-has_command.false)
 
 pub slice_bounds-slice_layer-start : goal.slice_bounds-slice_layer-start
 slice_bounds-slice_layer-start c =
-    let command : whole_command c.args.input.now ≡ true =
-    sym c.has_command.ensures ∙ c.if-not-has_command.false in
-    let long : command_length ≤ length c.args.input.now =
-    command-long c.args.input.now command in
-    let enough = long in search rules
+    let long = command-long c.args.input.now (sym c.has_command.ensures ∙ c.if-not-has_command.false) in
+    search rules
 
 pub slice_layer-requires : goal.slice_layer-requires
 slice_layer-requires c =
@@ -70,13 +49,12 @@ slice_layer-requires c =
 
 pub returns : goal.returns
 returns c =
-    let command : whole_command c.args.input.now ≡ true =
-    sym c.has_command.ensures ∙ c.if-not-has_command.false in
-    let a = c.args in
+    let command = sym c.has_command.ensures ∙ c.if-not-has_command.false in
     let good = sym c.sides_fit.ensures ∙ c.if-not-sides_fit.false in
+    let a = c.args in
+    let sliced =
+    good-sides a.input.now c.number_at-w.result c.number_at-h.result command c.number_at-w.ensures c.number_at-h.ensures good in
     c.slice_layer.ensures
     ∙ ap (λ (s : List ℕ). stored a.output.now (layer_bytes (layer_of (size_of c.number_at-w.result c.number_at-h.result) s)))
     (after-command a.input.now)
-    ∙ ap (stored a.output.now)
-    (sym (good-sides a.input.now c.number_at-w.result c.number_at-h.result command
-    c.number_at-w.ensures c.number_at-h.ensures good))
+    ∙ ap (stored a.output.now) (sym sliced)

@@ -4,9 +4,6 @@ use Rattle.grid.specs.Layer.{size_of}
 use Rattle.slicing.proofs.Bounds.{small_of, edges_few}
 use Rattle.slicing.proofs.steps.entry_count.Goals as goal
 
-pub edge_count-requires : goal.edge_count-requires
-edge_count-requires c = (small_of (size_of c.args.w c.args.h) c.requires).sized
-
 pub returns : goal.returns
 returns c =
     let size = size_of c.args.w c.args.h in

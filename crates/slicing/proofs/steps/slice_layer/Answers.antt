@@ -6,7 +6,7 @@ use lib.ListN.{replicate}
 use Rattle.grid.specs.Layer.{layer_of, size_of}
 use Rattle.trace.specs.Trace.{trace_of}
 use Rattle.slicing.specs.Slice.{bytes_after, layer_bytes, table_limit, stored}
-use Rattle.slicing.proofs.Answers.{first-zeros}
+use Rattle.std.proofs.lemmas.List.{take-replicate}
 use Rattle.slicing.proofs.steps.slice_layer.Goals as goal
 
 pub returns : goal.returns
@@ -16,4 +16,4 @@ returns c =
     let L = layer_of (size_of a.w a.h) a.bitmap.now in
     c.slice_in.ensures
     ∙ ap (λ (t : List ℕ). stored a.output.now (bytes_after L (trace_of L t)))
-    (first-zeros c.entry_count-n.result table_limit c.entry_count-n.ensures.1 ∙ ap (λ (n : ℕ). replicate n 0) c.entry_count-n.ensures.0)
+    (take-replicate c.entry_count-n.result table_limit 0 c.entry_count-n.ensures.1 ∙ ap (λ (n : ℕ). replicate n 0) c.entry_count-n.ensures.0)

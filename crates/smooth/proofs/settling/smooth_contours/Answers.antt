@@ -1,7 +1,6 @@
 -- `smooth_contours` meets its contract. The invariant: smoothing the contours from here on, on top of what is done, smooths the layer.
 -- Laws of such a loop are in Rounds; the sum of the totals stays small since each contour has at most 254 for each of its vertices.
-use mathlib.Core.Path.{◌≡◌, sym, ap, ◌∙◌}
-use mathlib.Core.Bool.{Bool, ◌&&◌}
+use mathlib.Core.Path.{refl, sym, ◌∙◌}
 use native.Mathlib.Omega.{arith}
 use Rattle.contour.proofs.Cursors.{fewer}
 use Rattle.smooth.proofs.Walking.{smoothable-kept}
@@ -33,14 +32,8 @@ loop-at-smaller c = fewer c.next_contour-at.ensures.left
 
 pub loop-at-preserved : goal.loop-at-preserved
 loop-at-preserved c =
-    let all_settled : c.if-settled.settled ≡ (c.loop-at.settled && c.smooth_contour-one.result.settled) =
-    let one : Bool = c.smooth_contour-one.result.settled in
-    elim c.if-settled.branch [
-      | goal.then-settled w ↦ w.settled-is ∙ sym (ap (λ (b : Bool). b && one) w.if-settled.true)
-      | goal.else-settled w ↦ w.settled-is ∙ w.if-settled.false ∙ sym (ap (λ (b : Bool). b && one) w.if-settled.false)
-    ] in
     smoothing-turn c.requires.first_set c.loop-at.invariant c.loop-at-test.true c.smooth_contour-one.ensures
-    c.next_contour-at.ensures c.larger-passes.ensures (all_settled)
+    c.next_contour-at.ensures c.max-passes.ensures refl
 
 pub shape_of-table : goal.shape_of-table
 shape_of-table c = c.loop-at.invariant.kept.whole ∙ sym c.requires.smoothable.exact

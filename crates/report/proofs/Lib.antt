@@ -1,2 +1,0 @@
--- Figures: a signed number as a figure.
-pub mod Figures

@@ -1,8 +1,0 @@
--- `counted_report` meets its contract.
-use Rattle.report.proofs.answers.counted_report.Goals as goal
-
-pub returns-in-Done : goal.returns-in-Done
-returns-in-Done c = rw (c.done_report.ensures, c.in-Done.is)
-
-pub returns-in-Refused : goal.returns-in-Refused
-returns-in-Refused c = rw (c.refused_report.ensures, c.in-Refused.is)

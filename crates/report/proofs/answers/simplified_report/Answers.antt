@@ -1,8 +1,0 @@
--- `simplified_report` meets its contract.
-use Rattle.report.proofs.answers.simplified_report.Goals as goal
-
-pub returns-in-Done : goal.returns-in-Done
-returns-in-Done c t = rw (c.done_report.ensures, c.in-Done.is)
-
-pub returns-in-Refused : goal.returns-in-Refused
-returns-in-Refused c t = rw (c.refused_report.ensures, c.in-Refused.is)
