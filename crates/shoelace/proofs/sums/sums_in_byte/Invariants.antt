@@ -1,12 +1,12 @@
 use Prim.Native.Nat.{◌+◌, ◌-◌, ◌*◌}
-use Rattle.grid.specs.Layer.{layer_of}
+use Rattle.grid.specs.Plain.{plain}
 use Rattle.shoelace.proofs.Running.{ByteRun}
 use Rattle.shoelace.specs.Running.{spot}
 use Rattle.shoelace.proofs.sums.sums_in_byte.Given as goal
 
 abbrev pub invariant-loop-left : goal.invariant-loop-left
 invariant-loop-left l =
-    ByteRun (layer_of l.size l.bitmap) l.table l.vertical l.row l.at (spot l.size l.vertical l.row (8 * l.at)) (record { output = l.initial.sums; running = l.initial.running }) l.left l.column
+    ByteRun (plain l.layer) l.table l.vertical l.row l.at (spot l.layer.size l.vertical l.row (8 * l.at)) (record { output = l.initial.sums; running = l.initial.running }) l.left l.column
     (record { output = l.sums; running = l.running })
 
 abbrev pub decreases-loop-left : goal.decreases-loop-left
