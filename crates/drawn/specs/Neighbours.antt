@@ -31,6 +31,13 @@ gap_before L t e = removed_from (prev L) L t (edge_count L.size) e
 abbrev pub previous_kept : Layer → List ℕ → Edge → Edge
 previous_kept L t e = kept_from (prev L) L t (edge_count L.size) e
 
+-- the same by either step of a layer
+abbrev pub gap_by : (Layer → Edge → Edge) → Layer → List ℕ → Edge → List Edge
+gap_by step L t e = removed_from (step L) L t (edge_count L.size) e
+
+abbrev pub kept_by : (Layer → Edge → Edge) → Layer → List ℕ → Edge → Edge
+kept_by step L t e = kept_from (step L) L t (edge_count L.size) e
+
 -- what the walk to a kept neighbour gives: the stick of it, which is one, and how many sticks the gap has
 pub record NeighbourFound (L : Layer) (neighbour : Edge) (between : List Edge) (end : EdgeEnd) : Type 0 where
   pub kept : end.stick ≡ neighbour

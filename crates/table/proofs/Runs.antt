@@ -55,65 +55,63 @@ pub record RowPassed (L : Layer) (t : List ℕ) (v : Bool) (r at : ℕ) : Type 0
   pub few : at ≤ 128
   pub passed : NoneBelow (wrong_in L t v r) (reached L.size v at)
 
-module _ {L : Layer} {t : List ℕ} {v : Bool} {r : ℕ} where
-  module _ {at : ℕ} (so_far : RowPassed L t v r at) where
-    pub row-end : edge_columns L.size v ≤ 8 * at → None ≡ least_of (wrong_in L t v r) (edge_columns L.size v)
-    row-end over = found-none _ _ (λ j h. so_far.passed.none j (omega arith))
+module _ {L : Layer} {t : List ℕ} {v : Bool} {r at : ℕ} (so_far : RowPassed L t v r at) where
+  pub row-end : edge_columns L.size v ≤ 8 * at → None ≡ least_of (wrong_in L t v r) (edge_columns L.size v)
+  row-end over = found-none _ _ (λ j h. so_far.passed.none j (omega arith))
 
-    module _ (given : LentRow L t v r) {start x n : ℕ} (p : Piece L v r at start x n) {b : Option ℕ}
-        (e : b ≡ least_of (wrong_from (taken t (start + 8 * at) n) x) (length (taken t (start + 8 * at) n))) where
-      before : NoneBelow (wrong_in L t v r) (8 * at)
-      before = rw p.from so_far.passed
+  module _ (given : LentRow L t v r) {start x n : ℕ} (p : Piece L v r at start x n) {b : Option ℕ}
+      (e : b ≡ least_of (wrong_from (taken t (start + 8 * at) n) x) (length (taken t (start + 8 * at) n))) where
+    before : NoneBelow (wrong_in L t v r) (8 * at)
+    before = rw p.from so_far.passed
 
-      lowest : b ≡ least_of (wrong_from (taken t (start + 8 * at) n) x) n
-      lowest = rw (length-taken t (start + 8 * at) n (lent-run given p).within) at e
+    lowest : b ≡ least_of (wrong_from (taken t (start + 8 * at) n) x) n
+    lowest = rw (length-taken t (start + 8 * at) n (lent-run given p).within) at e
 
-      run-same : (j : ℕ) → j < n → wrong_from (taken t (start + 8 * at) n) x j ≡ wrong_in L t v r (8 * at + j)
-      run-same j h =
-          ap₂ wrong (p.marks.ones j (omega (arith, p.small)))
-          (get_or-taken t (start + 8 * at) n j h
-          ∙ ap (λ (k : ℕ). get_or t k 0) (rw p.starts (add_assoc (row_start L.size v r) (8 * at) j)))
+    run-same : (j : ℕ) → j < n → wrong_from (taken t (start + 8 * at) n) x j ≡ wrong_in L t v r (8 * at + j)
+    run-same j h =
+        ap₂ wrong (p.marks.ones j (omega (arith, p.small)))
+        (get_or-taken t (start + 8 * at) n j h
+        ∙ ap (λ (k : ℕ). get_or t k 0) (rw p.starts (add_assoc (row_start L.size v r) (8 * at) j)))
 
-      pub row-found : {k : ℕ} → b ≡ Some k → Some (8 * at + k) ≡ least_of (wrong_in L t v r) (edge_columns L.size v)
-      row-found some = part-found before _ run-same lowest some p.fits
+    pub row-found : {k : ℕ} → b ≡ Some k → Some (8 * at + k) ≡ least_of (wrong_in L t v r) (edge_columns L.size v)
+    row-found some = part-found before _ run-same lowest some p.fits
 
-      pub row-within : {k : ℕ} → b ≡ Some k → k < n
-      row-within some = (found _ n lowest some).within
+    pub row-within : {k : ℕ} → b ≡ Some k → k < n
+    row-within some = (found _ n lowest some).within
 
-      pub row-turn : b ≡ None → RowPassed L t v r (at + 1)
-      row-turn none = record { few = pieces-few given p; passed = rw p.to at (part-passed before _ run-same lowest none) }
+    pub row-turn : b ≡ None → RowPassed L t v r (at + 1)
+    row-turn none = record { few = pieces-few given p; passed = rw p.to at (part-passed before _ run-same lowest none) }
 
 -- A kind, by rows: no entry of those before row r is wrong
 
 pub record KindPassed (L : Layer) (t : List ℕ) (v : Bool) (r : ℕ) : Type 0 where
   pub passed : NoneBelow (wrong_of L t v) (r * edge_columns L.size v)
 
-module _ {L : Layer} {t : List ℕ} {v : Bool} where
-  module _ {r : ℕ} (so_far : KindPassed L t v r) where
-    pub kind-end : edge_rows L.size v ≤ r → None ≡ least_of (wrong_of L t v) (edge_rows L.size v * edge_columns L.size v)
-    kind-end over =
-        let reached = mul-le-mul_right (edge_columns L.size v) over in
-        found-none _ _ (λ j h. so_far.passed.none j (omega arith))
+module _ {L : Layer} {t : List ℕ} {v : Bool} {r : ℕ} (so_far : KindPassed L t v r) where
+  pub kind-end : edge_rows L.size v ≤ r → None ≡ least_of (wrong_of L t v) (edge_rows L.size v * edge_columns L.size v)
+  kind-end over =
+      let reached = mul-le-mul_right (edge_columns L.size v) over in
+      found-none _ _ (λ j h. so_far.passed.none j (omega arith))
 
-    module _ (given : LentRow L t v r) {c : Option ℕ} (e : c ≡ least_of (wrong_in L t v r) (edge_columns L.size v)) where
-      row_same : (j : ℕ) → j < edge_columns L.size v → wrong_in L t v r j ≡ wrong_of L t v (r * edge_columns L.size v + j)
-      row_same j h =
-          ap₂ wrong
-          (ap (is_stick L) (sym (edge_in-at L.size given.sound.whole.sized v j r h)))
-          (ap (λ (k : ℕ). get_or t k 0) (add_assoc (kind_start L.size v) (r * edge_columns L.size v) j))
+  module _ (given : LentRow L t v r) {c : Option ℕ} (e : c ≡ least_of (wrong_in L t v r) (edge_columns L.size v)) where
+    row_same : (j : ℕ) → j < edge_columns L.size v → wrong_in L t v r j ≡ wrong_of L t v (r * edge_columns L.size v + j)
+    row_same j h =
+        ap₂ wrong
+        (ap (is_stick L) (sym (edge_in-at L.size given.sound.whole.sized v j r h)))
+        (ap (λ (k : ℕ). get_or t k 0) (add_assoc (kind_start L.size v) (r * edge_columns L.size v) j))
 
-      next : r * edge_columns L.size v + edge_columns L.size v ≡ (r + 1) * edge_columns L.size v
-      next = omega arith
+    next : r * edge_columns L.size v + edge_columns L.size v ≡ (r + 1) * edge_columns L.size v
+    next = omega arith
 
-      pub kind-found : {k : ℕ} → c ≡ Some k
-          → Some (r * edge_columns L.size v + k) ≡ least_of (wrong_of L t v) (edge_rows L.size v * edge_columns L.size v)
-      kind-found some =
-          let below : r + 1 ≤ edge_rows L.size v = omega (arith, given.row) in
-          let up = mul-le-mul_right (edge_columns L.size v) below in
-          part-found so_far.passed (wrong_in L t v r) row_same e some (omega (arith, next))
+    pub kind-found : {k : ℕ} → c ≡ Some k
+        → Some (r * edge_columns L.size v + k) ≡ least_of (wrong_of L t v) (edge_rows L.size v * edge_columns L.size v)
+    kind-found some =
+        let below : r + 1 ≤ edge_rows L.size v = omega (arith, given.row) in
+        let up = mul-le-mul_right (edge_columns L.size v) below in
+        part-found so_far.passed (wrong_in L t v r) row_same e some (omega (arith, next))
 
-      pub kind-turn : c ≡ None → KindPassed L t v (r + 1)
-      kind-turn none = record { passed = rw next at (part-passed so_far.passed (wrong_in L t v r) row_same e none) }
+    pub kind-turn : c ≡ None → KindPassed L t v (r + 1)
+    kind-turn none = record { passed = rw next at (part-passed so_far.passed (wrong_in L t v r) row_same e none) }
 
 -- Both kinds: the horizontal edges come first
 

@@ -35,6 +35,17 @@ pub fn ask_lengths(size: Size, bitmap: &[u8], entries: usize) -> Answer
     ask_table_length(size, entries)
 }
 
+// Whether the entries are all 0, with one test of all together.
+fn all_empty(run: &[u16]) -> bool
+    ensures { result ≡ true → (k : ℕ) → k < length run.now → get_or run.now k 0 ≡ 0 }
+{
+    let mut any = 0;
+    for n in run {
+        any |= *n;
+    }
+    any == 0
+}
+
 // The first of up to eight entries that is wrong. Bit b of marks says whether the b-th of them is on a stick.
 fn first_wrong(run: &[u16], marks: u8) -> Option<usize>
     requires { length run.now ≤ 8 }
@@ -46,17 +57,6 @@ fn first_wrong(run: &[u16], marks: u8) -> Option<usize>
         }
     }
     None
-}
-
-// Whether the entries are all 0, with one test of all together.
-fn all_empty(run: &[u16]) -> bool
-    ensures { result ≡ true → (k : ℕ) → k < length run.now → get_or run.now k 0 ≡ 0 }
-{
-    let mut any = 0;
-    for n in run {
-        any |= *n;
-    }
-    any == 0
 }
 
 // The same, with one test where eight edges have no stick and their entries are all 0.
