@@ -112,10 +112,6 @@ module _ {L : Layer} {r end : ℕ} where
     pub byte-room : c + z < 8 * at + 8
     byte-room = found.0
 
-    pub byte-narrow : Sound L → c + z < 1023
-    byte-narrow sound =
-        omega (arith, (stick-within L sound (east (c + z) r) found.1).column_below, sound.whole.sized.narrow)
-
     module _ (sound : Sound L) where
       -- the lowest bit is the next stick: if it is not past the end the sweep stands at it,
       pub byte-stick : SweptAt L (record { row = r; column = c + z; around = n })
