@@ -11,24 +11,15 @@ use contour::FirstSticks;
 
 // The first sticks that are still to come, and where the sweep stands: at the west end of the last one.
 #[derive(Drop)]
-<<<<<<< HEAD
-pub struct NestedFirsts<'l, 's> {
-    pub nesting: Nesting<'l, 's>,
-=======
 pub struct NestedFirsts<'l, 's, 'b> {
     pub nesting: Nesting<'l, 's, 'b>,
->>>>>>> fde8487c523f5128536a3ed5c4b4470d2903fca4
     pub firsts: FirstSticks<'l, 's>,
     pub at: Sweep,
     pub ghost all_first: { AllFirst (plain nesting.contours.layer) (firsts_left firsts) },
     pub ghost counted: { Counted (plain nesting.contours.layer) at },
 }
 
-<<<<<<< HEAD
-impl<'l, 's> Iterator for NestedFirsts<'l, 's> {
-=======
 impl<'l, 's, 'b> Iterator for NestedFirsts<'l, 's, 'b> {
->>>>>>> fde8487c523f5128536a3ed5c4b4470d2903fca4
     type Item = Nested;
 
     ghost use Rattle.std.specs.Iterator.{YieldsFirst, item_count};

@@ -19,11 +19,7 @@ pub struct Nested {
 }
 
 // The first sticks with their depths, in the order of the contours.
-<<<<<<< HEAD
-pub fn nested_of<'l, 's>(nesting: Nesting<'l, 's>) -> NestedFirsts<'l, 's>
-=======
 pub fn nested_of<'l, 's, 'b>(nesting: Nesting<'l, 's, 'b>) -> NestedFirsts<'l, 's, 'b>
->>>>>>> fde8487c523f5128536a3ed5c4b4470d2903fca4
     ensures { nested_left result ≡ with_depths (plain nesting.entry.contours.layer) (first_sticks (plain nesting.entry.contours.layer)) }
 {
     NestedFirsts {
