@@ -147,9 +147,6 @@ module _ {L : Layer} {r end at n : ℕ} (c : ℕ) {s : Ones} (b : ByteSwept L at
   place : c + s.at + z ≡ c + k
   place = omega (arith, taken.here)
 
-  pub one-narrow : Sound L → c + k < 1023
-  one-narrow sound = omega (arith, byte-narrow b taken.lowest taken.below sound, place)
-
   pub one-stick : Sound L → SweptAt L (record { row = r; column = c + k; around = n })
   one-stick sound = rw place at (byte-stick b taken.lowest taken.below sound)
 

@@ -258,9 +258,6 @@ module _ {L : Layer} {t : List ℕ} {v : Bool} {r at p : ℕ} {it : Ones} {s u :
   abbrev pub stick_at : Edge
   stick_at = record { vertical = v; column = 8 * at + n; row = r }
 
-  pub one-room : 8 * at + n < 1024
-  one-room = omega (arith, byte-room run taken.lowest taken.below, place)
-
   pub one-stick : AtStick L t stick_at u
   one-stick = rw place at (byte-stick run taken.lowest taken.below)
 
