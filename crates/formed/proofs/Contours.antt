@@ -9,9 +9,8 @@ use lib.ListN.{length, take, drop}
 use lib.Seq.{split_at, length-take-le}
 use Rattle.grid.specs.Layer.{Layer}
 use Rattle.grid.specs.Edges.{is_stick}
-use Rattle.grid.specs.Questions.{Sound}
+use Rattle.grid.specs.Questions.{Yes, Sound}
 use Rattle.grid.specs.declared.edge.Edge.{Edge}
-use Rattle.grid.specs.Questions.{Yes}
 use Rattle.contour.specs.Walk.{ahead}
 use Rattle.contour.specs.Contours.{walk_of, contour_of, first_sticks}
 use Rattle.contour.proofs.Orbit.{contour-at}

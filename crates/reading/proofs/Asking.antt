@@ -9,9 +9,8 @@ use lib.ListN.{length, get_or, length-append}
 use Rattle.std.specs.Prelude.{Some, None}
 use Rattle.grid.specs.Layer.{Layer}
 use Rattle.grid.specs.Edges.{is_stick, edge_count}
-use Rattle.grid.specs.Questions.{Sound}
+use Rattle.grid.specs.Questions.{Yes, Sound}
 use Rattle.grid.specs.declared.edge.Edge.{Edge}
-use Rattle.grid.specs.Questions.{Yes}
 use Rattle.step.specs.Walk.{next, prev}
 use Rattle.contour.specs.Contours.{contour_of, first_sticks}
 use Rattle.contour.proofs.Firsts.{here-stick}

@@ -7,9 +7,8 @@ use lib.ListN.{length}
 use Rattle.arith.proofs.Ranges.{length-tabulate_from}
 use Rattle.grid.specs.Layer.{Layer}
 use Rattle.grid.specs.Edges.{edge_count}
-use Rattle.grid.specs.Questions.{Sound}
+use Rattle.grid.specs.Questions.{Yes, Sound}
 use Rattle.grid.specs.declared.edge.Edge.{Edge}
-use Rattle.grid.specs.Questions.{Yes}
 use Rattle.contour.specs.Contours.{contour_of, first_sticks}
 use Rattle.contour.proofs.Laps.{OnLap, on_lap, due-stick, lap-turn}
 use Rattle.contour.proofs.Firsts.{FirstsLeft, firsts-start, firsts-turn, fold-turn, fold_end}
