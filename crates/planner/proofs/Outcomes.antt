@@ -16,7 +16,7 @@ use Rattle.grid.specs.Layer.{Layer}
 use Rattle.grid.specs.Questions.{Answer, Yes, No, first_no, ask}
 use Rattle.grid.specs.declared.refusal.Refusal.TheVariants.{ShortOutput}
 use Rattle.grid.specs.declared.refusal.Refused.{Refused}
-use Rattle.grid.proofs.Answers.{first-only, append-no, append-yes}
+use Rattle.grid.proofs.Answers.{append-no}
 use Rattle.grid.proofs.Numbers.{edges-small}
 use Rattle.contour.specs.Contours.{contour_count}
 use Rattle.bitset.specs.Sets.{set_bits}
@@ -25,7 +25,7 @@ use Rattle.held.specs.Questions.{held_questions, Accepted}
 use Rattle.item.specs.Items.{byte_of, bytes_of, floats_of}
 use Rattle.item.specs.Writing.{buffers_of, at_start, Room}
 use Rattle.planner.specs.Items.{listed_items}
-use Rattle.planner.specs.Plan.{Outcome, outcome, room_answer, answered, plan_of}
+use Rattle.planner.specs.Plan.{outcome, room_answer, answered, plan_of}
 use Rattle.planner.specs.Writing.{accepted_of}
 use Rattle.planner.proofs.Lengths.{bytes-all, floats-all}
 
@@ -43,13 +43,7 @@ module _ (L : Layer) (t items : List ℕ) (points : List Float) where
   unfolding answered
   outcome-yes e n m i p = (λ j. outcome (Ok (record { items = n j; floats = m j })) (i j) (p j)) ∙ ap (λ (a : Answer). answered a L t items points) (sym e)
 
-  -- questions 1 to 7, then 14
-  pub plan-yes : first_no (held_questions L t) ≡ Yes → {o : Outcome} → o ≡ accepted_of L t items points → o ≡ plan_of L t items points
-  plan-yes e is =
-      is
-      ∙ ap (λ (a : Answer). answered a L t items points)
-      (first-only (room_answer L t items points) ∙ append-yes (held_questions L t) (room_answer L t items points ∷ []) e)
-
+  -- questions 1 to 7 refuse
   pub plan-no : {e : Refused} → first_no (held_questions L t) ≡ Err e → outcome (Err e) items points ≡ plan_of L t items points
   plan-no e = outcome-no (sym (append-no (held_questions L t) (room_answer L t items points ∷ []) e))
 
