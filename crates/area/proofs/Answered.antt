@@ -9,14 +9,13 @@ use lib.Dec.{leb}
 use lib.IntN.{ℤ, pos, ◌+ℤ◌}
 use lib.ListN.{length, length-map}
 use lib.Seq.{sets}
+use Rattle.std.specs.Prelude.{Ok, Err}
 use Rattle.arith.specs.Ranges.{count}
 use Rattle.arith.proofs.Booleans.{and_split, and-short}
 use Rattle.grid.specs.Layer.{Layer}
-use Rattle.grid.specs.Questions.{first_no, if_all_yes, ask}
-use Rattle.grid.specs.declared.question.Refusal.{Refusal}
-use Rattle.grid.specs.declared.question.Refusal.TheVariants.{ShortOutput}
-use Rattle.grid.specs.declared.question.Answer.{Answer}
-use Rattle.grid.specs.declared.question.Answer.TheVariants.{Yes, No}
+use Rattle.grid.specs.Questions.{Answer, Yes, first_no, if_all_yes, ask}
+use Rattle.grid.specs.declared.refusal.Refusal.TheVariants.{ShortOutput}
+use Rattle.grid.specs.declared.refusal.Refused.{Refused}
 use Rattle.grid.proofs.Answers.{number-within, asked, append-no, append-yes, append-all, first-only}
 use Rattle.contour.specs.Contours.{contour_of, first_sticks, contour_count}
 use Rattle.table.specs.Kept.{kept_entry}
@@ -26,10 +25,10 @@ use Rattle.held.specs.Questions.{Accepted, held_questions}
 use Rattle.shoelace.specs.Adds.{edge_adds}
 use Rattle.held.proofs.Asking.{accepted-of}
 use Rattle.shoelace.specs.Running.{AllSummed}
-use Rattle.shoelace.specs.Sums.{sums_after, sums_of, total_of, drawn_count}
+use Rattle.shoelace.specs.Sums.{sums_after, sums_of, drawn_count}
 use Rattle.area.specs.Areas.{twice_area, areas_of}
-use Rattle.area.specs.Call.{has_room, room_answer, Outcome, outcome, measure_of}
-use Rattle.area.specs.declared.measure.Measured.TheVariants.{Done, Refused}
+use Rattle.area.specs.Call.{has_room, room_answer, Outcome, outcome, measures_of, measure_of}
+use Rattle.area.specs.declared.measure.Measures.{Measures}
 
 -- there is a number for each contour
 pub as_many : (L : Layer) (t : List ℕ) → contour_count L ≡ length (areas_of L t)
@@ -56,17 +55,17 @@ drawn-is L t held kept = kept ∙ edges-many (accepted-of L t held)
 module _ (L : Layer) (t : List ℕ) (areas sums : List ℤ) where
   -- the outcome, by the answer to all questions
   abbrev done_outcome : Outcome
-  done_outcome = outcome (Done (contour_count L) (drawn_count L t) (total_of L t)) (sets areas 0 (areas_of L t)) (sets sums 0 (sums_of L t))
+  done_outcome = outcome (Ok (measures_of L t)) (sets areas 0 (areas_of L t)) (sets sums 0 (sums_of L t))
 
   abbrev by_answer : Answer → Outcome
-  by_answer answer = if_all_yes answer (λ q place. outcome (Refused q place) areas sums) done_outcome
+  by_answer answer = if_all_yes answer (λ q place. outcome (Err (record { question = q; place = place })) areas sums) done_outcome
 
   measured-by : (answer : Answer) → first_no (held_questions L t ++ (room_answer L t areas sums ∷ [])) ≡ answer → measure_of L t areas sums ≡ by_answer answer
   unfolding measure_of
   measured-by answer e = ap by_answer e
 
-  pub measured-no : (q : Refusal) (place : ℕ) → first_no (held_questions L t) ≡ No q place → measure_of L t areas sums ≡ outcome (Refused q place) areas sums
-  measured-no q place e = measured-by (No q place) (sym (append-no (held_questions L t) (room_answer L t areas sums ∷ []) e))
+  pub measured-no : {n : Refused} → first_no (held_questions L t) ≡ Err n → outcome (Err n) areas sums ≡ measure_of L t areas sums
+  measured-no {n} e = sym (measured-by (Err n) (sym (append-no (held_questions L t) (room_answer L t areas sums ∷ []) e)))
 
   module _ (yes : first_no (held_questions L t) ≡ Yes) where
     -- what is left is question 14
@@ -76,11 +75,11 @@ module _ (L : Layer) (t : List ℕ) (areas sums : List ℤ) where
         (sym (append-yes (held_questions L t) (room_answer L t areas sums ∷ []) yes)
         ∙ sym (first-only (room_answer L t areas sums)) ∙ ap (ask ShortOutput) e)
 
-    pub measured-short-areas : {n : ℕ} → n ≡ contour_count L → length areas < n → outcome (Refused ShortOutput 0) areas sums ≡ measure_of L t areas sums
+    pub measured-short-areas : {n : ℕ} → n ≡ contour_count L → length areas < n → outcome (Err (record { question = ShortOutput; place = 0 })) areas sums ≡ measure_of L t areas sums
     measured-short-areas many l = sym (by-room false (rw (lt-leb (contour_count L) (length areas) (rw many at l))))
 
     pub measured-short-sums : {n : ℕ} → n ≡ count (kept_entry t) (length t) → length sums < n
-        → outcome (Refused ShortOutput 0) areas sums ≡ measure_of L t areas sums
+        → outcome (Err (record { question = ShortOutput; place = 0 })) areas sums ≡ measure_of L t areas sums
     measured-short-sums kept l =
         sym (by-room false (and-short (leb (contour_count L) (length areas)) _ (lt-leb (drawn_count L t) (length sums) (rw (drawn-is L t yes kept) at l))))
 
@@ -88,12 +87,12 @@ module _ (L : Layer) (t : List ℕ) (areas sums : List ℤ) where
     measured-done l m = by-room true (rw (le-leb (contour_count L) (length areas) l, le-leb (drawn_count L t) (length sums) m))
 
     -- by what the calls give
-    pub measured-all : {n m : ℕ} {total : ℤ} {areas' sums' : List ℤ} → n ≡ contour_count L → m ≡ count (kept_entry t) (length t) → n ≤ length areas
-        → m ≤ length sums → areas' ≡ sets areas 0 (areas_of L t) → AllSummed L t sums sums' total
-        → outcome (Done n m total) areas' sums' ≡ measure_of L t areas sums
+    pub measured-all : {m : Measures} {areas' sums' : List ℤ} → m.contours ≡ contour_count L → m.edges ≡ count (kept_entry t) (length t)
+        → m.contours ≤ length areas → m.edges ≤ length sums → areas' ≡ sets areas 0 (areas_of L t) → AllSummed L t sums sums' m.total
+        → outcome (Ok m) areas' sums' ≡ measure_of L t areas sums
     measured-all many kept room-areas room-sums put all =
         let drawn = drawn-is L t yes kept in
-        (λ i. outcome (Done (many i) (drawn i) (all.last i)) (put i) (all.put i))
+        (λ i. outcome (Ok (record { contours = many i; edges = drawn i; total = all.last i })) (put i) (all.put i))
         ∙ sym (measured-done (rw many at room-areas) (rw drawn at room-sums))
 
   -- a call that is done had a yes to all questions
@@ -115,4 +114,4 @@ module _ (L : Layer) (t : List ℕ) (areas sums : List ℤ) where
             room-areas = leb-true (contour_count L) (length areas) each.0;
             room-sums = leb-true (drawn_count L t) (length sums) each.1;
           }
-      by (No q place) e = absurd (omega (arith, done, ap (λ (o : Outcome). o.refusal) (measured-by (No q place) e), number-within q))
+      by (Err n) e = absurd (omega (arith, done, ap (λ (o : Outcome). o.refusal) (measured-by (Err n) e), number-within n.question))

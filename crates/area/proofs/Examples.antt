@@ -5,12 +5,12 @@ use mathlib.Core.Bool.{xor}
 use mathlib.Core.List.{List, [], ◌∷◌}
 use Prim.Native.Nat.{ℕ}
 use lib.IntN.{pos, negsuc}
+use Rattle.std.specs.Prelude.{Ok, Err}
 use Rattle.arith.specs.Ranges.{least_from}
 use Rattle.grid.specs.Layer.{Layer, layer_of, size_of, sample, bit}
 use Rattle.grid.specs.Edges.{number, edge_count, edge_at, is_stick}
-use Rattle.grid.specs.Questions.{first_no, sides_answer, length_answer, spare_answer, border_answer}
-use Rattle.grid.specs.declared.question.Refusal.TheVariants.{ShortOutput}
-use Rattle.grid.specs.declared.question.Answer.TheVariants.{Yes}
+use Rattle.grid.specs.Questions.{Yes, first_no, sides_answer, length_answer, spare_answer, border_answer}
+use Rattle.grid.specs.declared.refusal.Refusal.TheVariants.{ShortOutput}
 use Rattle.step.specs.Walk.{next, prev}
 use Rattle.contour.specs.Walk.{firsts_among}
 use Rattle.chord.specs.Crossing.{off, parted, crosses}
@@ -23,7 +23,6 @@ use Rattle.held.specs.Questions.{held_questions}
 use Rattle.shoelace.specs.Sums.{total_of}
 use Rattle.area.specs.Areas.{twice_area, areas_of}
 use Rattle.area.specs.Call.{outcome, measure_of}
-use Rattle.area.specs.declared.measure.Measured.TheVariants.{Done, Refused}
 
 -- "W 3, H 3, inside (1,1)", every stick kept at 128: a square on its corner, of half a square pitch
 abbrev single : Layer
@@ -34,19 +33,19 @@ traced = 0 ∷ 0 ∷ 128 ∷ 128 ∷ 0 ∷ 0 ∷ 0 ∷ 128 ∷ 0 ∷ 0 ∷ 128 �
 
 -- its area, and the sums, which are worked out in `shoelace` proofs/Examples.antt
 pub single-area : measure_of single traced (pos 7 ∷ pos 7 ∷ []) (pos 7 ∷ pos 7 ∷ pos 7 ∷ pos 7 ∷ pos 7 ∷ [])
-    ≡ outcome (Done 1 4 (pos 65536)) (pos 65536 ∷ pos 7 ∷ []) (negsuc 49151 ∷ pos 32768 ∷ pos 49152 ∷ pos 65536 ∷ pos 7 ∷ [])
+    ≡ outcome (Ok (record { contours = 1; edges = 4; total = pos 65536 })) (pos 65536 ∷ pos 7 ∷ []) (negsuc 49151 ∷ pos 32768 ∷ pos 49152 ∷ pos 65536 ∷ pos 7 ∷ [])
 unfolding measure_of total_of twice_area sides_answer length_answer spare_answer border_answer table_length_answer entries_answer held_answer held_contour edge_crosses
     firsts_among number edge_count edge_at is_stick sample bit next prev xor least_from kept_at removed_at offset_at removed_from kept_from entry_of
 single-area = refl
 
 -- no room for its number, or for the sum after its last edge: 14, and nothing is written
 pub no-room-for-areas : measure_of single traced [] (pos 7 ∷ pos 7 ∷ pos 7 ∷ pos 7 ∷ [])
-    ≡ outcome (Refused ShortOutput 0) [] (pos 7 ∷ pos 7 ∷ pos 7 ∷ pos 7 ∷ [])
+    ≡ outcome (Err (record { question = ShortOutput; place = 0 })) [] (pos 7 ∷ pos 7 ∷ pos 7 ∷ pos 7 ∷ [])
 unfolding measure_of total_of twice_area sides_answer length_answer spare_answer border_answer table_length_answer entries_answer held_answer held_contour edge_crosses
     firsts_among number edge_count edge_at is_stick sample bit next prev xor least_from kept_at removed_at offset_at removed_from kept_from entry_of
 no-room-for-areas = refl
 
-pub no-room-for-sums : measure_of single traced (pos 7 ∷ []) (pos 7 ∷ pos 7 ∷ pos 7 ∷ []) ≡ outcome (Refused ShortOutput 0) (pos 7 ∷ []) (pos 7 ∷ pos 7 ∷ pos 7 ∷ [])
+pub no-room-for-sums : measure_of single traced (pos 7 ∷ []) (pos 7 ∷ pos 7 ∷ pos 7 ∷ []) ≡ outcome (Err (record { question = ShortOutput; place = 0 })) (pos 7 ∷ []) (pos 7 ∷ pos 7 ∷ pos 7 ∷ [])
 unfolding measure_of total_of twice_area sides_answer length_answer spare_answer border_answer table_length_answer entries_answer held_answer held_contour edge_crosses
     firsts_among number edge_count edge_at is_stick sample bit next prev xor least_from kept_at removed_at offset_at removed_from kept_from entry_of
 no-room-for-sums = refl

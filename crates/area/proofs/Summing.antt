@@ -2,7 +2,7 @@
 -- next one adds, and what the drawn edges that start later add, make the whole.
 use mathlib.Core.Path.{◌≡◌, refl, sym, ◌∙◌, ap}
 use mathlib.Core.Bool.{true, false}
-use mathlib.Core.List.{List, ◌∷◌, map}
+use mathlib.Core.List.{List, [], ◌∷◌, map}
 use Prim.Native.Nat.{ℕ, ◌+◌, ◌*◌, ◌^◌, ◌≤◌, ◌<◌}
 use native.Mathlib.Omega.{arith}
 use lib.IntN.{ℤ, pos, nat_abs, ◌+ℤ◌, +ℤ_assoc, +ℤ_idl, +ℤ_idr}
@@ -10,13 +10,17 @@ use lib.ListN.{length}
 use Rattle.arith.proofs.Booleans.{both-sides}
 use Rattle.std.specs.Prelude.{Option, Some, None}
 use Rattle.grid.specs.Layer.{Layer}
+use Rattle.grid.specs.Edges.{is_stick}
+use Rattle.grid.specs.Questions.{Sound}
 use Rattle.grid.specs.declared.edge.Edge.{Edge}
 use Rattle.grid.proofs.Numbers.{edges-small}
 use Rattle.step.specs.Walk.{next}
 use Rattle.contour.specs.Walk.{Laws, rest, OnContour}
 use Rattle.contour.proofs.Orbit.{round}
-use Rattle.contour.specs.Contours.{walk_of, contour_of, same_edge}
-use Rattle.contour.proofs.Loop.{Due, start, due-one, due-next, rest_more, rest-last, shorter}
+use Rattle.contour.specs.Contours.{walk_of, contour_of, same_edge, AtOn}
+use Rattle.contour.specs.Remaining.{left_from}
+use Rattle.contour.proofs.Loop.{Due, start, due-next, rest_more, rest-last}
+use Rattle.contour.proofs.Laps.{OnLap, on_lap, lap-turn, lap-due, due-stick}
 use Rattle.contour.proofs.Sticks.{laws, same-edge}
 use Rattle.table.specs.Vertices.{entry_at, kept_at, offset_at}
 use Rattle.table.specs.declared.entry.Entry.{Entry}
@@ -34,6 +38,38 @@ use Rattle.area.specs.declared.walk.Walked.{Walked}
 use Rattle.shoelace.specs.Adds.{cross, edge_adds, HeldStick}
 use Rattle.area.specs.Areas.{sum_of, twice_area}
 use Rattle.area.specs.Measuring.{leads, begins, closing, NearTrail, past_vertex, past, AreaFound}
+
+-- where a walk along the contour of f stands: at the first of the sticks that are left, or back at f
+abbrev pub at_head : Edge → List Edge → Edge
+at_head f [] = f
+at_head f (x ∷ left) = x
+
+module _ {L : Layer} (sound : Sound L) where
+  rest-head : {f x : Edge} → Due (walk_of L) f x → at_head f (rest (walk_of L) x f) ≡ x
+  rest-head {f} {x} due = both-sides (same_edge (next L x) f)
+      (λ s. rw (rest-last (walk_of L) (laws L sound) f x (next L x) due refl s) refl)
+      (λ s. rw (rest_more (walk_of L) (laws L sound) f x (next L x) due refl s) refl)
+
+  -- the stick after one that came is where the walk stands then
+  next-from : (f : Edge) → is_stick L f ≡ true → (at : Option Edge) → AtOn L f at → {x : Edge} {left : List Edge} → left_from L f at ≡ x ∷ left
+      → at_head f left ≡ next L x
+  next-from f first None on e = absurd cc
+  next-from f first (Some y) on {x} {left} is =
+      let due : Due (walk_of L) f y = record { start_one = first; on = on y refl } in
+      both-sides (same_edge (next L y) f)
+      (λ s.
+      let one = sym (rest-last (walk_of L) (laws L sound) f y (next L y) due refl s) ∙ is in
+      let same : y ≡ x = cc in
+      let none : [] ≡ left = cc in
+      sym (ap (at_head f) none) ∙ sym (same-edge (next L y) f s) ∙ ap (next L) same)
+      (λ s.
+      let more = sym (rest_more (walk_of L) (laws L sound) f y (next L y) due refl s) ∙ is in
+      let same : y ≡ x = cc in
+      let later : rest (walk_of L) (next L y) f ≡ left = cc in
+      sym (ap (at_head f) later) ∙ rest-head (due-next (walk_of L) (laws L sound) f y (next L y) due refl) ∙ ap (next L) same)
+
+  next-head : {f : Edge} {left left' : List Edge} {x : Edge} → OnLap L f left → left ≡ x ∷ left' → at_head f left' ≡ next L x
+  next-head {f} lap e = next-from f lap.first lap.at lap.on (sym lap.is ∙ e)
 
 -- what the drawn edges that start among some sticks add
 abbrev pub sum_among : Layer → List ℕ → List Edge → ℤ
@@ -113,59 +149,61 @@ pub record Closing (L : Layer) (t : List ℕ) (f : Edge) (w : Walked) : Type 0 w
   pub whole : w.area +ℤ closing w.trail ≡ twice_area L t f
   pub bounded : nat_abs w.area ≤ 2 ^ 37 * length (contour_of L f)
 
--- the invariant of the loop
-pub record PartSummed (L : Layer) (t : List ℕ) (f x : Edge) (w : Walked) : Type 0 where
-  pub due : Due (walk_of L) f x
-  pub summed : Summed L t f x (rest (walk_of L) x f) w
+-- the invariant of the loop: `left` are the sticks that are left
+pub record PartSummed (L : Layer) (t : List ℕ) (f : Edge) (left : List Edge) (w : Walked) : Type 0 where
+  pub lap : OnLap L f left
+  pub summed : Summed L t f (at_head f left) left w
   pub near : NearTrail w.trail
 
 module _ {L : Layer} {t : List ℕ} {f : Edge} (given : HeldStick L t f) where
   abbrev law : Laws (walk_of L)
   law = laws L given.accepted.sound
 
-  pub summed-start : PartSummed L t f f (record { area = pos 0; trail = None })
-  unfolding twice_area
-  summed-start =
-      record {
-        due = start (walk_of L) law f given.stick;
-        summed = record { still = +ℤ_idl (sum_among L t (contour_of L f)); on_trail = refl; bounded = omega arith };
-        near = tt;
-      }
+  module _ {left : List Edge} where
+    pub summed-start : left ≡ contour_of L f → PartSummed L t f left (record { area = pos 0; trail = None })
+    unfolding twice_area
+    summed-start all =
+        let sound = given.accepted.sound in
+        let head : at_head f left ≡ f = ap (at_head f) all ∙ rest-head sound (start (walk_of L) law f given.stick) in
+        let summed : Summed L t f f (contour_of L f) (record { area = pos 0; trail = None }) =
+        record { still = +ℤ_idl (sum_among L t (contour_of L f)); on_trail = refl; bounded = omega arith } in
+        record { lap = on_lap sound given.stick all; summed = rw (head, all) summed; near = tt }
 
-  module _ {x : Edge} {w : Walked} (part : PartSummed L t f x w) where
-    pub summed-here : LentAt L t x
-    summed-here =
-        record { sound = given.accepted.sound; exact = given.accepted.exact; stick = due-one (walk_of L) law f x part.due }
+    module _ {w : Walked} (part : PartSummed L t f left w) where
+      pub summed-small : nat_abs w.area ≤ 2 ^ 58
+      summed-small =
+          let few = (round (walk_of L) law f given.stick).within in
+          omega (arith, part.summed.bounded, few, edges-small L.size given.accepted.sound.whole.sized)
 
-    pub summed-edge : NearEdge x
-    summed-edge =
-        let entry = has-entry summed-here in
-        in-grid-near L.size entry.sized x entry.in-grid
+      -- a stick comes
+      module _ {x : Edge} {left' : List Edge} (next : left ≡ x ∷ left') where
+        pub summed-here : LentAt L t x
+        summed-here =
+            record { sound = given.accepted.sound; exact = given.accepted.exact; stick = due-stick given.accepted.sound part.lap next }
 
-    pub summed-less : {x' : Edge} → x' ≡ next L x → same_edge x' f ≡ false → length (rest (walk_of L) x' f) < length (rest (walk_of L) x f)
-    summed-less {x'} step e = shorter (walk_of L) law f x x' part.due step e
+        pub summed-edge : NearEdge x
+        summed-edge =
+            let entry = has-entry summed-here in
+            in-grid-near L.size entry.sized x entry.in-grid
 
-    pub summed-small : nat_abs w.area ≤ 2 ^ 58
-    summed-small =
-        let few = (round (walk_of L) law f given.stick).within in
-        omega (arith, part.summed.bounded, few, edges-small L.size given.accepted.sound.whole.sized)
+        pub summed_turn : {entry : Entry} {w' : Walked} → entry ≡ entry_at L t x → w' ≡ past w x entry → nat_abs w'.area ≤ nat_abs w.area + 2 ^ 37
+            → NearTrail w'.trail → PartSummed L t f left' w'
+        summed_turn read is small near =
+            let sound = given.accepted.sound in
+            record {
+              lap = lap-turn sound part.lap next;
+              summed = summed-past given (rw next at part.summed) (lap-due sound part.lap next).on (next-head sound part.lap next) read is small;
+              near = near;
+            }
 
-    -- the turn at the stick, after which the walk goes on or is back
-    module _ {x' : Edge} {entry : Entry} {w' : Walked} (step : x' ≡ next L x) (read : entry ≡ entry_at L t x) (is : w' ≡ past w x entry)
-        (small : nat_abs w'.area ≤ nat_abs w.area + 2 ^ 37) where
-      pub summed_turn : NearTrail w'.trail → same_edge x' f ≡ false → PartSummed L t f x' w'
-      summed_turn near e =
-          let here = rw (rest_more (walk_of L) law f x x' part.due step e) at part.summed in
-          record { due = due-next (walk_of L) law f x x' part.due step; summed = summed-past given here part.due.on step read is small; near = near }
-
-      pub summed-end : same_edge x' f ≡ true → Closing L t f w'
-      summed-end e =
-          let alone = rest-last (walk_of L) law f x x' part.due step e in
-          let here = summed-past given (rw alone at part.summed) part.due.on step read is small in
-          let without : w'.area +ℤ leads w'.trail (vertex L t (kept_from_here L t f)) ≡ twice_area L t f =
-          sym (+ℤ_idr (w'.area +ℤ leads w'.trail (vertex L t (kept_from_here L t f)))) ∙ (rw (same-edge x' f e) at here.still) in
+      -- none is left
+      pub summed-end : left ≡ [] → Closing L t f w
+      summed-end over =
+          let here = rw over at part.summed in
+          let without : w.area +ℤ leads w.trail (vertex L t (kept_from_here L t f)) ≡ twice_area L t f =
+          sym (+ℤ_idr (w.area +ℤ leads w.trail (vertex L t (kept_from_here L t f)))) ∙ here.still in
           record {
-            whole = ap (λ (z : ℤ). w'.area +ℤ z) (closing-is L t f x' w'.trail here.on_trail) ∙ without;
+            whole = ap (λ (z : ℤ). w.area +ℤ z) (closing-is L t f f w.trail here.on_trail) ∙ without;
             bounded = omega (arith, here.bounded);
           }
 

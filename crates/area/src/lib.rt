@@ -5,4 +5,4 @@ mod contours;
 mod measure;
 mod walk;
 
-pub use measure::{Measured, areas};
+pub use measure::{Measures, areas};

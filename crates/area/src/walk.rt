@@ -1,15 +1,14 @@
 // Twice the signed area of one contour, by one walk over it.
 ghost use Rattle.std.specs.Prelude.{◌≡◌, ◌+◌, ◌^◌, ◌≤◌, ◌+ℤ◌, nat_abs};
-ghost use Rattle.grid.specs.Layer.{layer_of};
+ghost use Rattle.grid.specs.Plain.{plain};
 ghost use Rattle.chord.specs.Runs.{NearEdge};
 ghost use Rattle.shoelace.specs.Adds.{HeldStick};
 ghost use Rattle.area.specs.Measuring.{NearTrail, past, closing, AreaFound};
 
 use chord::{Position, position_of};
-use contour::same_edge;
-use grid::{Edge, Size};
+use contour::sticks_of;
+use grid::{Edge, Layer};
 use shoelace::cross_of;
-use step::next_stick;
 use table::{Entry, entry_at, is_kept, offset_in};
 
 // The first and the last kept vertex that a walk has passed.
@@ -40,13 +39,10 @@ impl Walked {
             return;
         }
         let here = position_of(e, offset_in(entry));
-        match self.trail {
+        match &mut self.trail {
             Some(trail) => {
                 self.area += cross_of(trail.last, here);
-                self.trail = Some(Trail {
-                    begin: trail.begin,
-                    last: here,
-                });
+                trail.last = here;
             }
             None => self.trail = Some(Trail {
                 begin: here,
@@ -71,21 +67,16 @@ impl Walked {
 
 // The sum over the drawn edges of the contour that starts at `first`. Each is added when the walk passes the kept vertex where it ends; the one from the
 // last to the first is added after the walk.
-pub fn contour_area(size: Size, bitmap: &[u8], table: &[u16], first: Edge) -> i64
-    requires { HeldStick (layer_of size bitmap.now) table.now first }
-    ensures { AreaFound (layer_of size bitmap.now) table.now first result }
+pub fn contour_area(layer: Layer, table: &[u16], first: Edge) -> i64
+    requires { HeldStick (plain layer) table.now first }
+    ensures { AreaFound (plain layer.entry) table.now first result }
 {
     let mut walked = Walked {
         area: 0,
         trail: None,
     };
-    let mut e = first;
-    loop {
-        walked.pass(e, entry_at(size, table, e));
-        e = next_stick(size, bitmap, e);
-        if same_edge(e, first) {
-            break;
-        }
+    for e in sticks_of(layer, first) {
+        walked.pass(e, entry_at(layer.size, table, e));
     }
     walked.closed()
 }

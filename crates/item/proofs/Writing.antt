@@ -12,10 +12,10 @@ use Rattle.item.specs.Items.{byte_of, floats_in, bytes_of, floats_of}
 use Rattle.item.specs.Writing.{Buffers, buffers_of, write_item, Room}
 use Rattle.item.specs.declared.item.Item.{Item}
 use Rattle.item.specs.declared.item.Item.TheVariants.{Move, Line}
-use Rattle.item.specs.declared.item.Point.{Point}
+use Rattle.std.specs.Prelude.{Float}
 
 -- for the two floats of an item that has a point
-pub room-point : {b : Buffers} {item : Item} {p : Point} → Room b (item ∷ []) → (item ≡ Move p) ⊎ (item ≡ Line p)
+pub room-point : {b : Buffers} {item : Item} {x y : Float} → Room b (item ∷ []) → (item ≡ Move x y) ⊎ (item ≡ Line x y)
     → b.at.floats + 2 ≤ length b.points
 unfolding flatten
 room-point room is = elim is [

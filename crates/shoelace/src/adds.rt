@@ -1,6 +1,6 @@
 // What one drawn edge adds to twice the area.
 ghost use Rattle.std.specs.Prelude.{◌≡◌, true, ◌^◌, ◌≤◌, nat_abs};
-ghost use Rattle.grid.specs.Layer.{layer_of};
+ghost use Rattle.grid.specs.Plain.{plain};
 ghost use Rattle.chord.specs.Runs.{Near};
 ghost use Rattle.table.specs.Vertices.{kept_at};
 ghost use Rattle.drawn.specs.Drawn.{drawn_from};
@@ -8,7 +8,7 @@ ghost use Rattle.shoelace.specs.Adds.{cross, edge_adds, HeldStick};
 
 use chord::{Position, signed};
 use drawn::{kept_after, vertex_at};
-use grid::{Edge, Size};
+use grid::{Edge, Layer};
 
 // What a drawn edge from p to q adds.
 pub fn cross_of(p: Position, q: Position) -> i64
@@ -21,12 +21,15 @@ pub fn cross_of(p: Position, q: Position) -> i64
 }
 
 // What the drawn edge that starts at the kept vertex of e adds. Its gap is walked once.
-pub fn edge_adds(size: Size, bitmap: &[u8], table: &[u16], e: Edge) -> i64
-    requires held_stick { HeldStick (layer_of size bitmap.now) table.now e }
-    requires kept { kept_at (layer_of size bitmap.now) table.now e ≡ true }
-    ensures value { result ≡ edge_adds (layer_of size bitmap.now) table.now (drawn_from (layer_of size bitmap.now) table.now e) }
+pub fn edge_adds(layer: Layer, table: &[u16], e: Edge) -> i64
+    requires held_stick { HeldStick (plain layer) table.now e }
+    requires kept { kept_at (plain layer) table.now e ≡ true }
+    ensures value { result ≡ edge_adds (plain layer.entry) table.now (drawn_from (plain layer.entry) table.now e) }
     ensures result_bound { nat_abs result ≤ 2 ^ 37 }
 {
-    let end = kept_after(size, bitmap, table, e);
-    cross_of(vertex_at(size, table, e), vertex_at(size, table, end.stick))
+    let end = kept_after(layer, table, e);
+    cross_of(
+        vertex_at(layer.size, table, e),
+        vertex_at(layer.size, table, end.stick),
+    )
 }

@@ -5,13 +5,12 @@ use mathlib.Core.List.{List}
 use Prim.Native.Nat.{ℕ}
 use native.Mathlib.Omega.{arith}
 use lib.ListN.{length}
+use Rattle.std.specs.Prelude.{Err}
 use Rattle.arith.specs.Ranges.{tabulate}
 use Rattle.arith.proofs.Ranges.{length-tabulate_from, get_d_tabulate}
 use Rattle.grid.specs.Layer.{Layer}
 use Rattle.grid.specs.Edges.{number, edge_count, is_stick, stick_at}
-use Rattle.grid.specs.Questions.{Sound, first_no}
-use Rattle.grid.specs.declared.question.Answer.{Answer}
-use Rattle.grid.specs.declared.question.Answer.TheVariants.{Yes, No}
+use Rattle.grid.specs.Questions.{Answer, Yes, Sound, first_no}
 use Rattle.grid.proofs.Answers.{number-within}
 use Rattle.grid.proofs.Numbers.{number-below, edge_at-number}
 use Rattle.contour.proofs.Sticks.{stick-in}
@@ -48,4 +47,4 @@ trace-kept L t done = by (first_no (length_questions L (length t))) refl done
   where
     by : (a : Answer) → first_no (length_questions L (length t)) ≡ a → (trace_of L t).refusal ≡ 0 → Sound L × AllKept L (trace_of L t).table
     by Yes e done = let sound = (lengths-of L t e).sound in (sound, rw e (traced-kept L sound))
-    by (No q place) e done = absurd (omega (arith, number-within q, rw e at done))
+    by (Err n) e done = absurd (omega (arith, number-within n.question, rw e at done))

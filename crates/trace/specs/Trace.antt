@@ -1,13 +1,11 @@
 -- Trace: "every stick kept at 128".
-use Rattle.std.specs.Prelude.{Bool, cond, List, ℕ, length}
+use Rattle.std.specs.Prelude.{Err, Bool, cond, List, ℕ, length}
 use Rattle.arith.specs.Ranges.{tabulate}
 use Rattle.grid.specs.Layer.{Layer}
 use Rattle.grid.specs.Edges.{edge_count, stick_at}
-use Rattle.grid.specs.Questions.{first_no, if_all_yes, number_of}
+use Rattle.grid.specs.Questions.{Answer, Yes, first_no, if_all_yes, number_of}
 use Rattle.table.specs.Entries.{encoded, length_questions}
 use Rattle.table.specs.declared.entry.Entry.TheVariants.{Nothing, Kept}
-use Rattle.trace.specs.declared.tracing.Traced.{Traced}
-use Rattle.trace.specs.declared.tracing.Traced.TheVariants.{Done, Refused}
 
 -- the number of an edge's entry, by whether the edge is a stick
 abbrev pub traced : Bool → ℕ
@@ -31,6 +29,6 @@ trace_of L t =
     (record { refusal = 0; place = 0; table = tabulate (traced_entry L) (edge_count L.size) })
 
 -- what an answer and a table at exit say
-abbrev pub outcome : Traced → List ℕ → Outcome
-outcome Done t = record { refusal = 0; place = 0; table = t }
-outcome (Refused q place) t = record { refusal = number_of q; place = place; table = t }
+abbrev pub outcome : Answer → List ℕ → Outcome
+outcome Yes t = record { refusal = 0; place = 0; table = t }
+outcome (Err e) t = record { refusal = number_of e.question; place = e.place; table = t }

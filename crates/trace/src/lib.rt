@@ -6,4 +6,4 @@ mod fill;
 mod tracing;
 
 pub use counting::{Counted, counts};
-pub use tracing::{Traced, trace};
+pub use tracing::trace;

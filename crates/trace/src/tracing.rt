@@ -4,28 +4,17 @@ ghost use Rattle.grid.specs.Layer.{layer_of, size_of};
 ghost use Rattle.trace.specs.Trace.{outcome, trace_of};
 
 use super::fill::fill_table;
-use grid::{Answer, Refusal, Size};
-
-// Trace's answer: done, or refused with the question and its place.
-#[derive(Clone, Copy)]
-pub enum Traced {
-    Done,
-    Refused(Refusal, usize),
-}
+use grid::{Layer, Refused, Size};
 
 // Makes every stick kept at 128, and every other entry 0. A refusal leaves the table as found.
-pub fn trace(w: u16, h: u16, bitmap: &[u8], table: &mut [u16]) -> Traced
+pub fn trace(w: u16, h: u16, bitmap: &[u8], table: &mut [u16]) -> Result<(), Refused>
     ensures { outcome result table.new ≡ trace_of (layer_of (size_of w h) bitmap.now) table.old }
 {
     let size = Size {
         width: w as usize,
         height: h as usize,
     };
-    match table::ask_lengths(size, bitmap, table.len()) {
-        Answer::Yes => {
-            fill_table(size, bitmap, table);
-            Traced::Done
-        }
-        Answer::No(q, place) => Traced::Refused(q, place),
-    }
+    table::ask_lengths(size, bitmap, table.len())?;
+    fill_table(Layer { size, bitmap }, table);
+    Ok(())
 }

@@ -3,24 +3,15 @@ ghost use Rattle.std.specs.Prelude.{◌≡◌};
 ghost use Rattle.grid.specs.Layer.{layer_of, size_of};
 ghost use Rattle.view.specs.View.{shown, view_of, sample_or_outside, sample_of};
 
-use grid::{Answer, Size};
+use grid::{Refused, Size};
 
-// A lent bitmap with its sides, or an empty part with sides 0 and the number and place of the refusal.
+// A lent bitmap with its sides, or an empty part with sides 0 and the refusal.
 #[derive(Clone, Copy)]
 pub struct View<'a> {
     pub bitmap: &'a [u8],
     pub width: u16,
     pub height: u16,
-    pub number: u32,
-    pub place: usize,
-}
-
-// The answer of `sample_at`: number and place of the refusal, both 0 if there is none, and whether the sample is inside.
-#[derive(Clone, Copy)]
-pub struct Sampled {
-    pub number: u32,
-    pub place: usize,
-    pub inside: bool,
+    pub refused: Option<Refused>,
 }
 
 // Puts questions 1 to 4 and makes the record.
@@ -32,19 +23,17 @@ pub fn make_view<'a>(w: u16, h: u16, bitmap: &'a [u8]) -> View<'a>
         height: h as usize,
     };
     match grid::ask_layer(size, bitmap) {
-        Answer::Yes => View {
+        Ok(()) => View {
             bitmap,
             width: w,
             height: h,
-            number: 0,
-            place: 0,
+            refused: None,
         },
-        Answer::No(q, place) => View {
+        Err(refused) => View {
             bitmap: &[],
             width: 0,
             height: 0,
-            number: grid::refusal_number(q),
-            place,
+            refused: Some(refused),
         },
     }
 }
@@ -63,13 +52,12 @@ pub fn sample<'a>(v: View<'a>, column: u16, row: u16) -> bool
 }
 
 // One sample by a view that is made for it.
-pub fn sample_at(w: u16, h: u16, bitmap: &[u8], column: u16, row: u16) -> Sampled
+pub fn sample_at(w: u16, h: u16, bitmap: &[u8], column: u16, row: u16) -> Result<bool, Refused>
     ensures { result ≡ sample_of (layer_of (size_of w h) bitmap.now) column row }
 {
     let view = make_view(w, h, bitmap);
-    Sampled {
-        number: view.number,
-        place: view.place,
-        inside: sample(view, column, row),
+    match view.refused {
+        None => Ok(sample(view, column, row)),
+        Some(refused) => Err(refused),
     }
 }

@@ -1,11 +1,9 @@
-use lib.ListN.{length}
-use Rattle.grid.specs.Layer.{layer_of}
-use Rattle.contour.specs.Cursors.{left}
+use Rattle.std.specs.Iterator.Adapters.{enumerate_source, enumerate_count}
+use Rattle.grid.specs.Plain.{plain}
+use Rattle.contour.specs.Remaining.{firsts_left}
 use Rattle.area.proofs.Storing.{PartMeasured}
 use Rattle.area.proofs.contours.put_areas.Given as goal
 
-abbrev pub invariant-loop-at : goal.invariant-loop-at
-invariant-loop-at l = PartMeasured (layer_of l.size l.bitmap) l.table l.initial.areas l.areas l.place l.at
-
-abbrev pub decreases-loop-at : goal.decreases-loop-at
-decreases-loop-at l = length (left (layer_of l.size l.bitmap) l.at)
+abbrev pub invariant-loop-place : goal.invariant-loop-place
+invariant-loop-place l =
+    PartMeasured (plain l.contours.layer) l.table l.initial.areas l.areas (enumerate_count l.place-iterator) (firsts_left (enumerate_source l.place-iterator))

@@ -1,7 +1,7 @@
 -- `edge_adds` meets its contract: the edge ends at the next kept vertex.
 use mathlib.Core.Path.{◌≡◌, ap, ◌∙◌}
 use Rattle.arith.proofs.Bounds.{sized, exact, within}
-use Rattle.grid.specs.Layer.{layer_of}
+use Rattle.grid.specs.Plain.{plain}
 use Rattle.grid.specs.declared.edge.Edge.{Edge}
 use Rattle.table.specs.Vertices.{offset_at}
 use Rattle.table.proofs.Lent.{has-entry}
@@ -28,7 +28,7 @@ pub returns : goal.returns
 unfolding offset_at
 returns c =
     let a = c.args in
-    let L = layer_of a.size a.bitmap.now in
+    let L = plain a.layer in
     let t = a.table.now in
     let p : c.vertex_at.result ≡ vertex L t a.e = c.vertex_at.ensures.value in
     let last : Edge = next_kept L t a.e in

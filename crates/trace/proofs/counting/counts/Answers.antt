@@ -1,20 +1,19 @@
 -- `counts` meets its contract: by the answer to questions 1 to 5.
-use mathlib.Core.Path.{sym}
+use mathlib.Core.Path.{sym, ◌∙◌}
+use Rattle.std.proofs.lemmas.Result.{err_from_is_err_and}
 use Rattle.table.proofs.Lengths.{lengths-of}
 use Rattle.trace.proofs.Outcomes.{counts-done, counts-refused}
 use Rattle.trace.proofs.counting.counts.Goals as goal
 
-pub inside_count-requires : goal.inside_count-requires
-inside_count-requires c = (lengths-of _ _ (sym c.in-Yes.ensures)).sound
+pub returns-in_err-ask_lengths : goal.returns-in_err-ask_lengths
+returns-in_err-ask_lengths c =
+    let exit = err_from_is_err_and c.from_residual.result c.from_residual.ensures.1 in
+    rw (exit.1, exit.2) (counts-refused _ _ (sym c.ask_lengths.ensures ∙ c.in_err-ask_lengths.was))
 
-pub stick_count-requires : goal.stick_count-requires
-stick_count-requires c = (lengths-of _ _ (sym c.in-Yes.ensures)).sound
+pub invariant_of-layer : goal.invariant_of-layer
+invariant_of-layer c = record { sound = (lengths-of _ _ (sym c.ask_lengths.ensures ∙ c.in_ok-ask_lengths.was)).sound }
 
-pub count_contours-requires : goal.count_contours-requires
-count_contours-requires c = (lengths-of _ _ (sym c.in-Yes.ensures)).sound
-
-pub returns-in-Yes : goal.returns-in-Yes
-returns-in-Yes c = counts-done _ _ (sym c.in-Yes.ensures) c.inside_count.ensures c.stick_count.ensures c.count_contours.ensures
-
-pub returns-in-No : goal.returns-in-No
-returns-in-No c = counts-refused _ _ (sym c.in-No.ensures)
+pub returns : goal.returns
+returns c =
+    let asked = sym c.ask_lengths.ensures ∙ c.in_ok-ask_lengths.was in
+    counts-done _ _ asked c.inside_count.ensures c.stick_count.ensures c.count_contours.ensures

@@ -5,8 +5,8 @@ use Rattle.trace.proofs.fill.entry_at.Goals as goal
 
 pub returns-then-marks-b-eq1 : goal.returns-then-marks-b-eq1
 unfolding bit
-returns-then-marks-b-eq1 c = rw (eq-eqb _ _ c.if-marks-b-eq1.true) c.encoded_of.ensures
+returns-then-marks-b-eq1 c = rw (eq-eqb _ _ c.if-marks-b-eq1.true) c.from.ensures
 
 pub returns-else-marks-b-eq1 : goal.returns-else-marks-b-eq1
 unfolding bit
-returns-else-marks-b-eq1 c = rw (ne_eqb _ _ c.if-marks-b-eq1.false) c.encoded_of-else-marks-b-eq1.ensures
+returns-else-marks-b-eq1 c = rw (ne_eqb _ _ c.if-marks-b-eq1.false) c.from-else-marks-b-eq1.ensures

@@ -1,11 +1,11 @@
 use mathlib.Core.Path.{◌≡◌}
 use Prim.Native.Nat.{◌*◌}
 use Rattle.arith.specs.Ranges.{fill}
-use Rattle.grid.specs.Layer.{layer_of}
+use Rattle.grid.specs.Plain.{plain}
 use Rattle.grid.specs.Edges.{edge_columns, kind_start}
 use Rattle.trace.specs.Trace.{traced_entry}
 use Rattle.trace.proofs.fill.fill_kind.Given as goal
 
 abbrev pub invariant-loop-row : goal.invariant-loop-row
 invariant-loop-row l =
-    l.table ≡ fill (traced_entry (layer_of l.size l.bitmap)) (kind_start l.size l.vertical) (l.row * edge_columns l.size l.vertical) l.initial.table
+    l.table ≡ fill (traced_entry (plain l.layer)) (kind_start l.layer.size l.vertical) (l.row * edge_columns l.layer.size l.vertical) l.initial.table

@@ -9,7 +9,7 @@ use Rattle.trace.proofs.fill.fill_row.Goals as goal
 
 pub loop-at-init : goal.loop-at-init
 loop-at-init c =
-    let none : reached c.args.size c.args.vertical 0 ≡ 0 = omega arith in
+    let none : reached c.args.layer.size c.args.vertical 0 ≡ 0 = omega arith in
     rw none (fill_none _ _ _)
 
 pub slice_bounds-fill_run-end : goal.slice_bounds-fill_run-end

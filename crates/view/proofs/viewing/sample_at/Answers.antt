@@ -1,13 +1,9 @@
 -- `sample_at` meets its contract: what the view gives is the layer's sample.
-use mathlib.Core.Path.{ap, ◌∙◌}
-use Rattle.grid.specs.Layer.{layer_of, size_of}
-use Rattle.view.proofs.Views.{gives, gives-is}
+use Rattle.view.proofs.Views.{made-gives, refused-gives}
 use Rattle.view.proofs.viewing.sample_at.Goals as goal
 
-pub returns : goal.returns
-returns c =
-    let a = c.args in
-    let view = c.make_view-view in
-    (λ i. record { number = view.result.number; place = view.result.place; inside = c.sample.ensures i })
-    ∙ ap (λ v. gives v a.column a.row) view.ensures
-    ∙ gives-is (layer_of (size_of a.w a.h) a.bitmap.now) a.column a.row
+pub returns-in-None : goal.returns-in-None
+returns-in-None c = made-gives _ _ _ c.make_view-view.ensures c.in-None.is c.sample.ensures
+
+pub returns-in-Some : goal.returns-in-Some
+returns-in-Some c = refused-gives _ _ _ c.make_view-view.ensures c.in-Some.is
