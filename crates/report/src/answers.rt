@@ -32,13 +32,7 @@ pub fn counted_report(answer: Result<Counted, Refused>) -> Report
     ensures { record { report = result; buffers = tt } ≡ counts_result (Counts.figures_of answer) }
 {
     match answer {
-        Ok(
-            Counted {
-                inside,
-                sticks,
-                contours,
-            },
-        ) => done_report(inside, sticks, contours),
+        Ok(counts) => done_report(counts.inside, counts.sticks, counts.contours),
         Err(no) => refused_report(no),
     }
 }
@@ -47,13 +41,7 @@ pub fn smoothed_report(answer: Result<Settling, Refused>) -> Report
     ensures { (t : List ℕ) → record { report = result; buffers = t } ≡ smooth_result (Smooth.outcome answer t) }
 {
     match answer {
-        Ok(
-            Settling {
-                passes,
-                total,
-                settled,
-            },
-        ) => done_report(passes, total, usize::from(settled)),
+        Ok(end) => done_report(end.passes, end.total, usize::from(end.settled)),
         Err(no) => refused_report(no),
     }
 }
@@ -62,7 +50,7 @@ pub fn simplified_report(answer: Result<RunCounts, Refused>) -> Report
     ensures { (t : List ℕ) → record { report = result; buffers = t } ≡ simplify_result (Simplify.outcome answer t) }
 {
     match answer {
-        Ok(RunCounts { removed, tried }) => done_report(removed, tried, 0),
+        Ok(runs) => done_report(runs.removed, runs.tried, 0),
         Err(no) => refused_report(no),
     }
 }
@@ -73,15 +61,9 @@ pub fn rolled_report(answer: Result<usize, RollRefused>) -> Report
 {
     match answer {
         Ok(done) => done_report(done, 0, 0),
-        Err(
-            RollRefused {
-                question,
-                place,
-                done,
-            },
-        ) => Report {
-            first: done,
-            ..refused_report(Refused { question, place })
+        Err(no) => Report {
+            first: no.done,
+            ..refused_report(no.question.at(no.place))
         },
     }
 }
@@ -108,7 +90,7 @@ pub fn planned_report(answer: Result<Written, Refused>) -> Report
     ensures { (out : Outputs) → record { report = result; buffers = out } ≡ plan_result (Plan.outcome answer out.items out.points) }
 {
     match answer {
-        Ok(Written { items, floats }) => done_report(items, floats, 0),
+        Ok(written) => done_report(written.items, written.floats, 0),
         Err(no) => refused_report(no),
     }
 }
@@ -117,13 +99,7 @@ pub fn measured_report(answer: Result<area::Measures, Refused>) -> Report
     ensures { (out : Measures) → record { report = result; buffers = out } ≡ measure_result (Area.outcome answer out.areas out.sums) }
 {
     match answer {
-        Ok(
-            area::Measures {
-                contours,
-                edges,
-                total,
-            },
-        ) => done_report(contours, edges, figure_of(total)),
+        Ok(found) => done_report(found.contours, found.edges, figure_of(found.total)),
         Err(no) => refused_report(no),
     }
 }
