@@ -2,15 +2,16 @@
 use mathlib.Core.Path.{◌≡◌, refl, ap, sym, ◌∙◌}
 use mathlib.Core.Logic.{◌≢◌}
 use mathlib.Core.Bool.{Bool, true, false, true≢false, cond}
-use Prim.Native.Nat.{ℕ, zero, suc, ◌+◌, ◌-◌, ◌*◌, ◌/◌, ◌%◌, ◌^◌, ◌<◌}
+use Prim.Native.Nat.{ℕ, zero, suc, ◌+◌, ◌-◌, ◌*◌, ◌/◌, ◌%◌, ◌^◌, ◌≤◌, ◌<◌}
 use native.Mathlib.Decide.{dec_lt, ℕ_discrete}
-use native.Mathlib.Nat.{mod-lt, pow-suc}
+use native.Mathlib.Nat.{mod-lt, pow-suc, div-lt_iff_lt-mul, mul_assoc}
+use native.Mathlib.Numerals.{add-one}
 use native.Mathlib.Omega.{arith}
 use lib.Count.{count_trailing_zeros, under}
-use lib.Pow.{shl_exact}
+use lib.Pow.{shl_exact, pow-add, pow_pos}
 use Rattle.arith.proofs.Booleans.{both-sides}
 use Rattle.arith.specs.Ranges.{least, least_from}
-use Rattle.arith.proofs.Ranges.{least_from-is, least_from-none, least_from-holds, least_from-below, least_from-same}
+use Rattle.arith.proofs.Ranges.{least-is, least_from-is, least_from-none, least_from-holds, least_from-below, least_from-same}
 use Rattle.grid.specs.Layer.{bit}
 use Rattle.grid.proofs.Bits.{bit-shift, bit-zero, bit-first, bit-later, bit-end}
 
@@ -55,6 +56,25 @@ some-bit (suc k) x l n = both-sides (bit x 0)
       | yes o ↦ true≢false (sym (bit-first x ∙ rw o) ∙ e)
       | no o ↦ n (let r : x % 2 < 2 = mod-lt x (omega arith) in omega arith)
     ]
+
+-- the lowest of a word of n bits is one of them, and what is above it has fewer
+module _ (n x z : ℕ) (few : n ≤ 64) (l : x < 2 ^ n) (some : x ≢ 0) (e : z ≡ least (bit x) 64) where
+  pub lowest-in : z < n
+  lowest-in =
+      let below = some-bit n x l some in
+      let same = least-is (bit x) 64 (least (bit x) n) (omega (arith, below)) (least_from-holds (bit x) 0 n (omega (arith, below)))
+      (λ j h. least_from-below (bit x) 0 n j (omega arith) h) in
+      omega (arith, below, same)
+
+  pub above-fewer : x / 2 ^ z / 2 < 2 ^ (n - (z + 1))
+  above-fewer =
+      let m : ℕ = n - (z + 1) in
+      let parts : m + (z + 1) ≡ n = omega (arith, lowest-in) in
+      let whole : 2 ^ n ≡ 2 ^ m * 2 ^ (z + 1) = sym (ap (λ (k : ℕ). 2 ^ k) parts) ∙ pow-add 2 m (z + 1) in
+      let double : 2 * 2 ^ z ≡ 2 ^ (z + 1) = rw add-one (omega (arith, pow-suc 2 z)) in
+      let all : 2 ^ m * 2 * 2 ^ z ≡ 2 ^ n = mul_assoc (2 ^ m) 2 (2 ^ z) ∙ ap (λ (k : ℕ). 2 ^ m * k) double ∙ sym whole in
+      let q : x / 2 ^ z < 2 ^ m * 2 = (div-lt_iff_lt-mul (pow_pos z)).1 (rw all l) in
+      omega (arith, q)
 
 -- the lowest from bit s on, found in the word moved down by s
 pub lowest-none : (x s : ℕ) → s < 64 → x / 2 ^ s ≡ 0 → 64 ≡ least_from (bit x) s (64 - s)

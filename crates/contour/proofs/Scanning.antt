@@ -11,6 +11,8 @@ use Rattle.grid.specs.Edges.{is_stick, StickBits}
 use Rattle.grid.specs.Questions.{Sound}
 use Rattle.grid.specs.declared.edge.Edge.{Edge}
 use Rattle.grid.proofs.Samples.{last_byte}
+use Rattle.bitset.specs.Bits.{OneTaken}
+use Rattle.bitset.specs.declared.ones.Ones.{Ones}
 use Rattle.bitset.specs.Sets.{words, set_bits, Empty, with_number}
 use Rattle.step.proofs.Walks.{stick-within}
 use Rattle.contour.specs.Contours.{contour_of}
@@ -99,6 +101,20 @@ module _ {L : Layer} {at r : ℕ} {t : List ℕ} where
     byte_last none =
         let end : 8 * at + 8 ≡ 8 * (at + 1) = omega arith in
         rw end at (scan-skip b.to (8 * at + 8) b.within (left-done L false at r c x b.left none))
+
+-- the same as the bits of the byte come, one after the other
+module _ {L : Layer} {at r : ℕ} {t : List ℕ} {s : Ones} (b : ByteScanned L at r t s.left (8 * at + s.at)) where
+  module _ {n z : ℕ} {s' : Ones} (taken : OneTaken s n s' z) where
+    pub one-stick : ScannedAt L (8 * at + n) r t
+    one-stick =
+        let place : 8 * at + s.at + z ≡ 8 * at + n = omega (arith, taken.here) in
+        rw place at (byte-stick b (taken.lowest, taken.below))
+
+    pub one-turn : {t' : List ℕ} → Scanned L (r * (L.size.width - 1) + (8 * at + n) + 1) t' → ByteScanned L at r t' s'.left (8 * at + s'.at)
+    one-turn {t'} scanned =
+        let place : 8 * at + n ≡ 8 * at + s.at + z = omega (arith, taken.here) in
+        let next : 8 * at + s'.at ≡ 8 * at + s.at + (z + 1) = omega (arith, taken.next) in
+        rw (taken.left, next) (byte-turn b (taken.lowest, taken.below) (rw place at scanned))
 
 -- From row to row
 

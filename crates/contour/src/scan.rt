@@ -10,7 +10,7 @@ ghost use Rattle.contour.specs.Sets.{FirstSet};
 ghost use Rattle.contour.specs.Marking.{mark_edge, Markable, Scanned, ScannedTo, ScannedAt};
 
 use super::walk::sticks_of;
-use bitset::{EdgeSet, contains, insert, lowest_bit, remove};
+use bitset::{EdgeSet, contains, insert, ones_of, remove};
 use grid::{Edge, Layer, stride_of};
 use mask::stick_byte;
 
@@ -53,13 +53,8 @@ fn scan_byte(layer: Layer, set: &mut EdgeSet, at: usize, row: usize)
     requires scanned_to { ScannedTo (plain layer) row (8 * at) set.old }
     ensures { ScannedTo (plain layer.entry) row (8 * (at + 1)) set.new }
 {
-    let mut left = u64::from(stick_byte(layer, false, at, row));
-    let mut column = 8 * at;
-    while left != 0 {
-        let zeros = lowest_bit(left);
-        scan_stick(layer, set, column + zeros, row);
-        left = (left >> zeros) / 2;
-        column += zeros + 1;
+    for b in ones_of(u64::from(stick_byte(layer, false, at, row))) {
+        scan_stick(layer, set, 8 * at + b, row);
     }
 }
 

@@ -12,7 +12,7 @@ use Rattle.arith.specs.Lists.{among}
 use Rattle.grid.specs.Layer.{Layer}
 use Rattle.grid.specs.Questions.{Sound}
 use Rattle.grid.specs.declared.edge.Edge.{Edge}
-use Rattle.grid.specs.declared.question.Answer.TheVariants.{Yes}
+use Rattle.grid.specs.Questions.{Yes}
 use Rattle.contour.specs.Contours.{contour_of}
 use Rattle.chord.specs.Points.{Position, Crosses, MeetsWithin}
 use Rattle.chord.specs.Crossing.{crosses, slides_within}

@@ -1,11 +1,11 @@
 // The edges that an edit redraws, as chords over the sticks that they pass.
 ghost use Rattle.std.specs.Prelude.{◌≡◌, ◌&&◌};
-ghost use Rattle.grid.specs.Layer.{layer_of};
+ghost use Rattle.grid.specs.Plain.{plain};
 ghost use Rattle.edit.specs.Chords.{crosses_chord, within_chord, slid_into, slid_out, joined_over, ChordOn, Measurable, BothMeasurable, Editable, Slidable};
 
 use chord::{Position, crosses_run, position_of, slides_within};
 use drawn::{kept_after, kept_before, vertex_at};
-use grid::{Edge, Size};
+use grid::{Edge, Layer};
 use step::next_stick;
 use table::{entry_at, offset_in};
 
@@ -19,22 +19,28 @@ pub struct Chord {
 }
 
 // Question 11 of a redrawn edge: it crosses every stick that it passes.
-pub fn crosses_all(size: Size, bitmap: &[u8], c: Chord) -> bool
-    requires { ChordOn (layer_of size bitmap.now) c }
-    ensures { result ≡ crosses_chord (layer_of size bitmap.now) c }
+pub fn crosses_all(layer: Layer, c: Chord) -> bool
+    requires { ChordOn (plain layer) c }
+    ensures { result ≡ crosses_chord (plain layer.entry) c }
 {
-    crosses_run(size, bitmap, c.from, c.to, c.stick, c.gap)
+    crosses_run(layer, c.from, c.to, c.stick, c.gap)
 }
 
 // Question 12 of a redrawn edge: the vertex of every stick that it passes slides to it within t.
-pub fn within_all(size: Size, bitmap: &[u8], table: &[u16], t: u8, c: Chord) -> bool
-    requires { Measurable (layer_of size bitmap.now) table.now c }
-    ensures { result ≡ within_chord (layer_of size bitmap.now) table.now t c }
+pub fn within_all(layer: Layer, table: &[u16], t: u8, c: Chord) -> bool
+    requires { Measurable (plain layer) table.now c }
+    ensures { result ≡ within_chord (plain layer.entry) table.now t c }
 {
     let mut at = c.stick;
     for _ in 0..c.gap {
-        at = next_stick(size, bitmap, at);
-        if !slides_within(t, c.from, c.to, at, offset_in(entry_at(size, table, at))) {
+        at = next_stick(layer, at);
+        if !slides_within(
+            t,
+            c.from,
+            c.to,
+            at,
+            offset_in(entry_at(layer.size, table, at)),
+        ) {
             return false;
         }
     }
@@ -42,31 +48,31 @@ pub fn within_all(size: Size, bitmap: &[u8], table: &[u16], t: u8, c: Chord) -> 
 }
 
 // The same of the two edges that a slide redraws.
-pub fn crosses_both(size: Size, bitmap: &[u8], into: Chord, out: Chord) -> bool
-    requires into_on { ChordOn (layer_of size bitmap.now) into }
-    requires out_on { ChordOn (layer_of size bitmap.now) out }
-    ensures { result ≡ (crosses_chord (layer_of size bitmap.now) into && crosses_chord (layer_of size bitmap.now) out) }
+pub fn crosses_both(layer: Layer, into: Chord, out: Chord) -> bool
+    requires into_on { ChordOn (plain layer) into }
+    requires out_on { ChordOn (plain layer) out }
+    ensures { result ≡ (crosses_chord (plain layer.entry) into && crosses_chord (plain layer.entry) out) }
 {
-    crosses_all(size, bitmap, into) && crosses_all(size, bitmap, out)
+    crosses_all(layer, into) && crosses_all(layer, out)
 }
 
-pub fn within_both(size: Size, bitmap: &[u8], table: &[u16], t: u8, into: Chord, out: Chord) -> bool
-    requires { BothMeasurable (layer_of size bitmap.now) table.now into out }
-    ensures { result ≡ (within_chord (layer_of size bitmap.now) table.now t into && within_chord (layer_of size bitmap.now) table.now t out) }
+pub fn within_both(layer: Layer, table: &[u16], t: u8, into: Chord, out: Chord) -> bool
+    requires { BothMeasurable (plain layer) table.now into out }
+    ensures { result ≡ (within_chord (plain layer.entry) table.now t into && within_chord (plain layer.entry) table.now t out) }
 {
-    within_all(size, bitmap, table, t, into) && within_all(size, bitmap, table, t, out)
+    within_all(layer, table, t, into) && within_all(layer, table, t, out)
 }
 
 // The edge that ends at the vertex of e, once that vertex lies at another offset.
-pub fn slid_into(size: Size, bitmap: &[u8], table: &[u16], e: Edge, offset: u8) -> Chord
-    requires { Slidable (layer_of size bitmap.now) table.now e offset }
-    ensures value { result ≡ slid_into (layer_of size bitmap.now) table.now e offset }
-    ensures chord_on { ChordOn (layer_of size bitmap.now) result }
+pub fn slid_into(layer: Layer, table: &[u16], e: Edge, offset: u8) -> Chord
+    requires { Slidable (plain layer) table.now e offset }
+    ensures value { result ≡ slid_into (plain layer.entry) table.now e offset }
+    ensures chord_on { ChordOn (plain layer.entry) result }
 {
-    let before = kept_before(size, bitmap, table, e);
+    let before = kept_before(layer, table, e);
     let stick = before.stick;
     Chord {
-        from: vertex_at(size, table, stick),
+        from: vertex_at(layer.size, table, stick),
         to: position_of(e, offset),
         stick,
         gap: before.gap,
@@ -74,32 +80,32 @@ pub fn slid_into(size: Size, bitmap: &[u8], table: &[u16], e: Edge, offset: u8) 
 }
 
 // The edge that starts there.
-pub fn slid_out(size: Size, bitmap: &[u8], table: &[u16], e: Edge, offset: u8) -> Chord
-    requires { Slidable (layer_of size bitmap.now) table.now e offset }
-    ensures value { result ≡ slid_out (layer_of size bitmap.now) table.now e offset }
-    ensures chord_on { ChordOn (layer_of size bitmap.now) result }
+pub fn slid_out(layer: Layer, table: &[u16], e: Edge, offset: u8) -> Chord
+    requires { Slidable (plain layer) table.now e offset }
+    ensures value { result ≡ slid_out (plain layer.entry) table.now e offset }
+    ensures chord_on { ChordOn (plain layer.entry) result }
 {
-    let after = kept_after(size, bitmap, table, e);
+    let after = kept_after(layer, table, e);
     Chord {
         from: position_of(e, offset),
-        to: vertex_at(size, table, after.stick),
+        to: vertex_at(layer.size, table, after.stick),
         stick: e,
         gap: after.gap,
     }
 }
 
 // The edge that joins the kept vertices before and after e, once that of e is removed: it passes e too.
-pub fn joined(size: Size, bitmap: &[u8], table: &[u16], e: Edge) -> Chord
-    requires { Editable (layer_of size bitmap.now) table.now e }
-    ensures value { result ≡ joined_over (layer_of size bitmap.now) table.now e }
-    ensures chord_on { ChordOn (layer_of size bitmap.now) result }
+pub fn joined(layer: Layer, table: &[u16], e: Edge) -> Chord
+    requires { Editable (plain layer) table.now e }
+    ensures value { result ≡ joined_over (plain layer.entry) table.now e }
+    ensures chord_on { ChordOn (plain layer.entry) result }
 {
-    let before = kept_before(size, bitmap, table, e);
-    let after = kept_after(size, bitmap, table, e);
+    let before = kept_before(layer, table, e);
+    let after = kept_after(layer, table, e);
     let stick = before.stick;
     Chord {
-        from: vertex_at(size, table, stick),
-        to: vertex_at(size, table, after.stick),
+        from: vertex_at(layer.size, table, stick),
+        to: vertex_at(layer.size, table, after.stick),
         stick,
         gap: before.gap + 1 + after.gap,
     }

@@ -13,10 +13,9 @@ use Rattle.arith.specs.Booleans.{as_number}
 use Rattle.arith.proofs.Booleans.{both-sides}
 use Rattle.grid.specs.Layer.{Layer}
 use Rattle.grid.specs.Edges.{number, is_stick}
-use Rattle.grid.specs.Questions.{Sound}
+use Rattle.grid.specs.Questions.{Yes, No, Sound}
 use Rattle.grid.specs.declared.edge.Edge.{Edge}
-use Rattle.grid.specs.declared.question.Refusal.TheVariants.{Malformed}
-use Rattle.grid.specs.declared.question.Answer.TheVariants.{Yes, No}
+use Rattle.grid.specs.declared.refusal.Refusal.TheVariants.{Malformed}
 use Rattle.grid.proofs.Answers.{no-not-yes}
 use Rattle.contour.specs.Walk.{occurrences, walked}
 use Rattle.contour.specs.Contours.{walk_of, contour_of, first_sticks, same_edge}

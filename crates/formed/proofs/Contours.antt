@@ -1,5 +1,5 @@
 -- Where the contours of a sheet are expected: each from where the one before it ends, so that in a well-formed sheet the commands of a contour
--- lie within it. At last the same for a cursor.
+-- lie within it. At last the same for the first sticks that a loop has left.
 use mathlib.Core.Path.{◌≡◌, refl, sym, ◌∙◌, ap}
 use mathlib.Core.Bool.{true}
 use mathlib.Core.List.{List, [], ◌∷◌, ◌++◌, map, flatten, append_assoc, map-append}
@@ -9,17 +9,12 @@ use lib.ListN.{length, take, drop}
 use lib.Seq.{split_at, length-take-le}
 use Rattle.grid.specs.Layer.{Layer}
 use Rattle.grid.specs.Edges.{is_stick}
-use Rattle.grid.specs.Questions.{Sound}
+use Rattle.grid.specs.Questions.{Yes, Sound}
 use Rattle.grid.specs.declared.edge.Edge.{Edge}
-use Rattle.grid.specs.declared.question.Answer.TheVariants.{Yes}
-use Rattle.contour.specs.Walk.{ahead, firsts_from}
+use Rattle.contour.specs.Walk.{ahead}
 use Rattle.contour.specs.Contours.{walk_of, contour_of, first_sticks}
-use Rattle.contour.specs.Sets.{FirstSet}
-use Rattle.contour.specs.Cursors.{left, Placed, Opened, Moved}
-use Rattle.contour.specs.declared.cursor.Cursor.{Cursor}
 use Rattle.contour.proofs.Orbit.{contour-at}
 use Rattle.contour.proofs.Sticks.{laws}
-use Rattle.contour.proofs.Cursors.{here-left}
 use Rattle.sheet.specs.Commands.{size_command, contour_command, end_command}
 use Rattle.formed.specs.Expected.{Expected, these, vertex_of, expected_contour, expected_sheet, commands_from, sheet_answer}
 use Rattle.formed.specs.Asked.{widths, expected_from, ContoursExpected}
@@ -92,16 +87,15 @@ module _ {L : Layer} where
             omega (arith, widths-append b.before mid, widths-vertices (take j c), length-take-le j c (omega arith), b.wide),
           )
 
--- The contours from a cursor on
+-- The contours of the first sticks that are left
 
-module _ {L : Layer} {c : Cursor} where
-  pub expected-start : Opened L c → ContoursExpected L (left L c) 5
-  expected-start o = rw o.left contours-first
+module _ {L : Layer} {left : List Edge} where
+  pub expected-start : left ≡ first_sticks L → ContoursExpected L left 5
+  expected-start e = rw e contours-first
 
-  module _ {i : ℕ} (b : ContoursExpected L (left L c) i) where
-    pub expected-next : {c' : Cursor} → Moved L c c' → ContoursExpected L (left L c') (i + 6 + 2 * length (contour_of L c.stick))
-    expected-next m = contours-later (rw m.left at b)
+  module _ {i : ℕ} (b : ContoursExpected L left i) {f : Edge} {later : List Edge} (next : left ≡ f ∷ later) where
+    pub expected-here : ContoursExpected L (f ∷ later) i
+    expected-here = rw next at b
 
-    pub expected-here : {m : List ℕ} → FirstSet L m → Placed L c → c.more ≡ true
-        → ContoursExpected L (c.stick ∷ firsts_from (walk_of L) (c.number + 1)) i
-    expected-here set placed more = rw (here-left set placed more) at b
+    pub expected-next : ContoursExpected L later (i + 6 + 2 * length (contour_of L f))
+    expected-next = contours-later expected-here

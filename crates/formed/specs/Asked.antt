@@ -4,11 +4,9 @@ use Rattle.std.specs.Prelude.{◌≡◌, true, ℕ, ◌+◌, ◌≤◌, length, 
 use mathlib.Core.List.{List, [], ◌∷◌, ◌++◌, map, flatten}
 use Rattle.grid.specs.Layer.{Layer}
 use Rattle.grid.specs.Edges.{is_stick}
-use Rattle.grid.specs.Questions.{Sound}
 use Rattle.grid.specs.declared.edge.Edge.{Edge}
-use Rattle.grid.specs.declared.question.Refusal.TheVariants.{Malformed}
-use Rattle.grid.specs.declared.question.Answer.{Answer}
-use Rattle.grid.specs.declared.question.Answer.TheVariants.{No}
+use Rattle.grid.specs.declared.refusal.Refused.{Refused}
+use Rattle.grid.specs.Questions.{Answer}
 use Rattle.sheet.specs.Commands.{end_command}
 use Rattle.formed.specs.Expected.{Expected, these, width, expected_contour, expected_sheet, commands_from}
 
@@ -21,25 +19,24 @@ widths (x ∷ later) = width x + widths later
 abbrev pub expected_from : Layer → List Edge → List Expected
 expected_from L fs = flatten (map (expected_contour L) fs) ++ (these end_command ∷ [])
 
--- what code that asks for the commands of a contour is given: the contour of f in a sound layer, and a place within the sheet
+-- what code that asks for the commands of a contour is given: its first stick f, and a place within the sheet
 pub record ContourAsked (L : Layer) (s : List ℕ) (f : Edge) (i : ℕ) : Type 0 where
-  pub sound : Sound L
   pub stick : is_stick L f ≡ true
   pub within : i ≤ length s
 
 -- the place that the asking came to: after commands that stand, or that of the first that does not
-abbrev pub came_to : Result ℕ ℕ → ℕ
+abbrev pub came_to : Result ℕ Refused → ℕ
 came_to (Ok after) = after
-came_to (Err wrong) = wrong
+came_to (Err wrong) = wrong.place
 
 -- the answer for what is expected later, once the asking came so far
-abbrev pub answer_after : List ℕ → List Expected → Result ℕ ℕ → Answer
+abbrev pub answer_after : List ℕ → List Expected → Result ℕ Refused → Answer
 answer_after s later (Ok after) = commands_from s after later
-answer_after s later (Err wrong) = No Malformed wrong
+answer_after s later (Err wrong) = Err wrong
 
--- the expected commands xs, asked for from place i on: all of them stand, and the next is expected at `Ok`; or not all of them do, and the
--- first that does not is expected at `Err`
-pub record CommandsAsked (s : List ℕ) (i : ℕ) (xs : List Expected) (came : Result ℕ ℕ) : Type 0 where
+-- the expected commands xs, asked for from place i on: all of them stand, and the next is expected at `Ok`; or not all of them do, and `Err`
+-- is the no at the first that does not
+pub record CommandsAsked (s : List ℕ) (i : ℕ) (xs : List Expected) (came : Result ℕ Refused) : Type 0 where
   pub within : came_to came ≤ length s
   pub says : (later : List Expected) → commands_from s i (xs ++ later) ≡ answer_after s later came
 

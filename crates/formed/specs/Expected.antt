@@ -4,9 +4,8 @@ use Rattle.std.specs.Prelude.{Bool, true, cond, ◌&&◌, ◌||◌, ℕ, ◌+◌
 use mathlib.Core.List.{List, [], ◌∷◌, ◌++◌, map, flatten}
 use Rattle.grid.specs.Layer.{Layer}
 use Rattle.grid.specs.declared.edge.Edge.{Edge}
-use Rattle.grid.specs.declared.question.Refusal.TheVariants.{Malformed}
-use Rattle.grid.specs.declared.question.Answer.{Answer}
-use Rattle.grid.specs.declared.question.Answer.TheVariants.{Yes, No}
+use Rattle.grid.specs.declared.refusal.Refusal.TheVariants.{Malformed}
+use Rattle.grid.specs.Questions.{Answer, Yes, No}
 use Rattle.contour.specs.Contours.{contour_of, first_sticks}
 use Rattle.sheet.specs.Commands.{size_command, contour_command, end_command}
 

@@ -1,60 +1,41 @@
 // Question 8 of a sheet: the expected commands, asked for one after the other.
 ghost use Rattle.std.specs.Prelude.{◌≡◌, [], ◌∷◌, map, ◌≤◌, length};
-ghost use Rattle.grid.specs.Layer.{layer_of};
+ghost use Rattle.grid.specs.Plain.{plain};
 ghost use Rattle.contour.specs.Contours.{contour_of, first_sticks};
-ghost use Rattle.contour.specs.Sets.{FirstSet};
 ghost use Rattle.sheet.specs.Commands.{end_command};
 ghost use Rattle.formed.specs.Expected.{these, vertex_of, expected_contour, commands_from, sheet_answer};
 ghost use Rattle.formed.specs.Asked.{expected_from, ContourAsked, CommandsAsked};
 
 use super::command::{has_contour, has_size, has_vertex};
-use bitset::EdgeSet;
-use contour::{first_contour, next_contour, same_edge};
-use grid::{Answer, Edge, Refusal, Size};
+use contour::{ContourSet, firsts_of, sticks_of};
+use grid::{Answer, Edge, Layer, Refusal, Refused};
 use sheet::{CONTOUR_BYTES, SIZE_BYTES, VERTEX_BYTES};
-use step::next_stick;
 
-// The vertices of the contour that starts at `first`: the place after them, or else of the first that does not stand.
-fn walk_vertices(
-    size: Size,
-    bitmap: &[u8],
-    sheet: &[u8],
-    i: usize,
-    first: Edge,
-) -> Result<usize, usize>
-    requires { ContourAsked (layer_of size bitmap.now) sheet.now first i }
-    ensures { CommandsAsked sheet.now i (map vertex_of (contour_of (layer_of size bitmap.now) first)) result }
+// The vertices of the contour that starts at `first`: the place after them, or else a no at the first that does not stand.
+fn walk_vertices(layer: Layer, sheet: &[u8], i: usize, first: Edge) -> Result<usize, Refused>
+    requires { ContourAsked (plain layer) sheet.now first i }
+    ensures { CommandsAsked sheet.now i (map vertex_of (contour_of (plain layer.entry) first)) result }
 {
-    let mut e = first;
-    let mut at = i;
-    loop {
-        if !has_vertex(sheet, at) {
-            return Err(at);
+    let mut place = i;
+    for _ in sticks_of(layer, first) {
+        if !has_vertex(sheet, place) {
+            return Err(Refusal::Malformed.at(place));
         }
-        at += VERTEX_BYTES;
-        e = next_stick(size, bitmap, e);
-        if same_edge(e, first) {
-            break;
-        }
+        place += VERTEX_BYTES;
     }
-    Ok(at)
+    Ok(place)
 }
 
-// The command that begins the contour of `first`, and its vertices: the place after them, or else of the first command that does not stand.
-fn walk_contour(
-    size: Size,
-    bitmap: &[u8],
-    sheet: &[u8],
-    i: usize,
-    first: Edge,
-) -> Result<usize, usize>
-    requires { ContourAsked (layer_of size bitmap.now) sheet.now first i }
-    ensures { CommandsAsked sheet.now i (expected_contour (layer_of size bitmap.now) first) result }
+// The command that begins the contour of `first`, and its vertices: the place after them, or else a no at the first command that does not
+// stand.
+fn walk_contour(layer: Layer, sheet: &[u8], i: usize, first: Edge) -> Result<usize, Refused>
+    requires { ContourAsked (plain layer) sheet.now first i }
+    ensures { CommandsAsked sheet.now i (expected_contour (plain layer.entry) first) result }
 {
     if !has_contour(sheet, i, first) {
-        return Err(i);
+        return Err(Refusal::Malformed.at(i));
     }
-    walk_vertices(size, bitmap, sheet, i + CONTOUR_BYTES, first)
+    walk_vertices(layer, sheet, i + CONTOUR_BYTES, first)
 }
 
 // E, and nothing after it.
@@ -63,37 +44,30 @@ fn ask_end(sheet: &[u8], i: usize) -> Answer
     ensures { result ≡ commands_from sheet.now i (these end_command ∷ []) }
 {
     match &sheet[i..] {
-        [b'E'] => Answer::Yes,
-        [b'E', ..] => Answer::No(Refusal::Malformed, i + 1),
-        _ => Answer::No(Refusal::Malformed, i),
+        [b'E'] => Ok(()),
+        [b'E', ..] => Err(Refusal::Malformed.at(i + 1)),
+        _ => Err(Refusal::Malformed.at(i)),
     }
 }
 
 // The contours in order, and the end.
-fn ask_contours(size: Size, bitmap: &[u8], sheet: &[u8], set: &EdgeSet) -> Answer
-    requires first_set { FirstSet (layer_of size bitmap.now) set.now }
-    requires in_bounds { 5 ≤ length sheet.now }
-    ensures { result ≡ commands_from sheet.now 5 (expected_from (layer_of size bitmap.now) (first_sticks (layer_of size bitmap.now))) }
+fn ask_contours(contours: ContourSet, sheet: &[u8]) -> Answer
+    requires { 5 ≤ length sheet.now }
+    ensures { result ≡ commands_from sheet.now 5 (expected_from (plain contours.entry.layer) (first_sticks (plain contours.entry.layer))) }
 {
-    let mut place: usize = SIZE_BYTES;
-    let mut at = first_contour(size, bitmap, set);
-    while at.more {
-        place = match walk_contour(size, bitmap, sheet, place, at.stick) {
-            Ok(after) => after,
-            Err(wrong) => return Answer::No(Refusal::Malformed, wrong),
-        };
-        at = next_contour(size, bitmap, set, at);
+    let mut place = SIZE_BYTES;
+    for first in firsts_of(contours) {
+        place = walk_contour(contours.layer, sheet, place, first)?;
     }
     ask_end(sheet, place)
 }
 
-// Question 8, from the set of first sticks.
-pub fn ask_sheet(size: Size, bitmap: &[u8], sheet: &[u8], set: &EdgeSet) -> Answer
-    requires { FirstSet (layer_of size bitmap.now) set.now }
-    ensures { result ≡ sheet_answer (layer_of size bitmap.now) sheet.now }
+// Question 8.
+pub fn ask_sheet(contours: ContourSet, sheet: &[u8]) -> Answer
+    ensures { result ≡ sheet_answer (plain contours.entry.layer) sheet.now }
 {
-    if !has_size(sheet, size) {
-        return Answer::No(Refusal::Malformed, 0);
+    if !has_size(sheet, contours.layer.size) {
+        return Err(Refusal::Malformed.at(0));
     }
-    ask_contours(size, bitmap, sheet, set)
+    ask_contours(contours, sheet)
 }

@@ -17,8 +17,8 @@ pub struct Point {
 
 #[derive(Clone, Copy)]
 pub enum Item {
-    Move(Point),
-    Line(Point),
+    Move(f64, f64),
+    Line(f64, f64),
     Close,
 }
 
@@ -53,7 +53,11 @@ pub fn point_of(e: Edge, offset: u8) -> Point
 pub fn item_to(due: bool, p: Point) -> Item
     ensures { result ≡ item_to due p }
 {
-    if due { Item::Move(p) } else { Item::Line(p) }
+    if due {
+        Item::Move(p.x, p.y)
+    } else {
+        Item::Line(p.x, p.y)
+    }
 }
 
 // The byte that stands for an item.
@@ -61,26 +65,22 @@ fn byte_of(item: Item) -> u8
     ensures { result ≡ byte_of item }
 {
     match item {
-        Item::Move(_) => 0x4D,
-        Item::Line(_) => 0x6C,
+        Item::Move(..) => 0x4D,
+        Item::Line(..) => 0x6C,
         Item::Close => 0x5A,
     }
 }
 
-// Writes an item out: one byte, and the coordinates of its point if it has one.
-pub fn put_item(items: &mut [u8], points: &mut [f64], at: Written, item: Item) -> Written
-    requires { Room (buffers_of items.old points.old at) (item ∷ []) }
-    ensures { buffers_of items.new points.new result ≡ write_item (buffers_of items.old points.old at) item }
+// Writes an item out where the outputs are written to, and moves that on: one byte, and the coordinates of its point if it has one.
+pub fn put_item(items: &mut [u8], points: &mut [f64], at: &mut Written, item: Item)
+    requires { Room (buffers_of items.old points.old at.old) (item ∷ []) }
+    ensures { buffers_of items.new points.new at.new ≡ write_item (buffers_of items.old points.old at.old) item }
 {
     items[at.items] = byte_of(item);
-    let mut floats = at.floats;
-    if let Item::Move(p) | Item::Line(p) = item {
-        points[floats] = p.x;
-        points[floats + 1] = p.y;
-        floats += 2;
-    }
-    Written {
-        items: at.items + 1,
-        floats,
+    at.items += 1;
+    if let Item::Move(x, y) | Item::Line(x, y) = item {
+        points[at.floats] = x;
+        points[at.floats + 1] = y;
+        at.floats += 2;
     }
 }

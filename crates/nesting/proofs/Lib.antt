@@ -1,4 +1,4 @@
--- Laws of the sweep along a row, of the set of sticks on bores, and of the cursor.
+-- Laws of the sweep along a row, of depths, and of the set of sticks on bores.
 pub mod Sweeping
 pub mod Depths
 pub mod Marking

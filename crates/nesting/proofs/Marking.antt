@@ -1,7 +1,7 @@
 -- The set of sticks on bores, while the contours are gone through: a horizontal stick has its bit set if it is on a bore that is done.
 use mathlib.Core.Path.{◌≡◌, refl, ap, sym, ◌∙◌, subst}
 use mathlib.Core.Bool.{Bool, true, false, true≢false, cond, not, ◌&&◌}
-use mathlib.Core.List.{List, [], foldl}
+use mathlib.Core.List.{List, [], ◌∷◌, foldl}
 use Prim.Native.Nat.{ℕ, ◌+◌, ◌≤◌, ◌<◌}
 use native.Mathlib.Omega.{arith}
 use borrow.Author.Tests.{ne_eqb}
@@ -17,9 +17,8 @@ use Rattle.bitset.proofs.Sets.{has-none}
 use Rattle.contour.specs.Walk.{first, occurrences}
 use Rattle.contour.specs.Contours.{walk_of, same_edge, contour_of, first_sticks}
 use Rattle.contour.specs.Marking.{mark_edge, horizontal, Markable}
-use Rattle.contour.specs.Cursors.{left, Placed, Opened, Moved}
-use Rattle.contour.specs.declared.cursor.Cursor.{Cursor}
 use Rattle.contour.proofs.First.{first_one}
+use Rattle.contour.proofs.Firsts.{FirstsLeft, firsts-start, firsts-turn, here-first}
 use Rattle.contour.proofs.Orbit.{same_true, same_false}
 use Rattle.contour.proofs.Sticks.{laws, same_self}
 use Rattle.contour.proofs.Theorems.{AllSticks, contour-sticks}
@@ -31,14 +30,15 @@ use Rattle.winding.proofs.Contours.{on-is, off, on-only, on-first_of, first_of-f
 use Rattle.nesting.specs.Bores.{mark_bore, BoreSet}
 
 -- the contour of e is none of those that are left
-abbrev done : Layer → Cursor → Edge → Bool
-done L c e = eqb (occurrences (walk_of L) (first_of L e) (left L c)) 0
+abbrev done : Layer → List Edge → Edge → Bool
+done L left e = eqb (occurrences (walk_of L) (first_of L e) left) 0
 
-pub record BoresMarked (L : Layer) (c : Cursor) (s : List ℕ) : Type 0 where
-  pub placed : Placed L c
+-- of the contours those of these first sticks are left
+pub record BoresMarked (L : Layer) (left : List Edge) (s : List ℕ) : Type 0 where
+  pub firsts : FirstsLeft L left
   pub kept : Kept L s
-  pub most : (y : Edge) → occurrences (walk_of L) y (left L c) ≤ occurrences (walk_of L) y (first_sticks L)
-  pub says : (e : Edge) → is_stick L e ≡ true → e.vertical ≡ false → has s (number L.size e) ≡ (on_bore L e && done L c e)
+  pub most : (y : Edge) → occurrences (walk_of L) y left ≤ occurrences (walk_of L) y (first_sticks L)
+  pub says : (e : Edge) → is_stick L e ≡ true → e.vertical ≡ false → has s (number L.size e) ≡ (on_bore L e && done L left e)
 
 and_no : (a : Bool) {b : Bool} → b ≡ false → (a && b) ≡ false
 and_no true e = e
@@ -49,18 +49,18 @@ and_yes true e = e
 and_yes false e = refl
 
 module _ {L : Layer} (sound : Sound L) where
-  pub bores-start : {c : Cursor} {s : List ℕ} → Opened L c → Empty s → BoresMarked L c s
-  bores-start {c} {s} opened empty = record {
-    placed = opened.placed;
+  pub bores-start : {left : List Edge} {s : List ℕ} → left ≡ first_sticks L → Empty s → BoresMarked L left s
+  bores-start {left} {s} all empty = record {
+    firsts = firsts-start L all;
     kept = (empty.sized, λ k h. has-none s empty k);
-    most = λ y. omega (arith, ap (occurrences (walk_of L) y) opened.left);
+    most = λ y. omega (arith, ap (occurrences (walk_of L) y) all);
     says = λ e stick flat. has-none s empty (number L.size e) ∙ sym (and_no (on_bore L e) (undone e stick));
   }
     where
-      undone : (e : Edge) → is_stick L e ≡ true → done L c e ≡ false
+      undone : (e : Edge) → is_stick L e ≡ true → done L left e ≡ false
       undone e stick =
           let once = first-sticks-once L sound (first_of L e) ∙ ap as_number (first_of-first sound e stick) in
-          ap (λ (n : ℕ). eqb n 0) (ap (occurrences (walk_of L) (first_of L e)) opened.left ∙ once)
+          ap (λ (n : ℕ). eqb n 0) (ap (occurrences (walk_of L) (first_of L e)) all ∙ once)
 
   -- One contour marked: the bits of its horizontal sticks are set, and no other is changed
 
@@ -94,15 +94,15 @@ module _ {L : Layer} (sound : Sound L) where
 
   -- A turn: f is the first of those that are left
 
-  module _ {c c' : Cursor} {s s' : List ℕ} (m : BoresMarked L c s) (is-first : first (walk_of L) c.stick ≡ true) (moved : Moved L c c')
-      (work : s' ≡ mark_bore L s c.stick) where
-    abbrev f : Edge
-    f = c.stick
+  module _ {left left' : List Edge} {f : Edge} {s s' : List ℕ} (m : BoresMarked L left s) (next : left ≡ f ∷ left')
+      (work : s' ≡ mark_bore L s f) where
+    is-first : first (walk_of L) f ≡ true
+    is-first = here-first m.firsts next
 
     -- how often a stick stands in what was left
-    counts : (y : Edge) → occurrences (walk_of L) y (left L c) ≡ as_number (same_edge y f) + occurrences (walk_of L) y (left L c')
+    counts : (y : Edge) → occurrences (walk_of L) y left ≡ as_number (same_edge y f) + occurrences (walk_of L) y left'
     unfolding occurrences
-    counts y = ap (occurrences (walk_of L) y) moved.left
+    counts y = ap (occurrences (walk_of L) y) next
 
     work-bore : is_bore L f ≡ true → s' ≡ foldl (mark_edge L.size) s (contour_of L f)
     work-bore b = work ∙ ap (λ (x : Bool). cond x (foldl (mark_edge L.size) s (contour_of L f)) s) b
@@ -115,19 +115,19 @@ module _ {L : Layer} (sound : Sound L) where
       g = first_of L e
 
       -- e is on f: f is done now, and the bit, which was clear, says whether it is a bore
-      own-done : g ≡ f → done L c' e ≡ true
+      own-done : g ≡ f → done L left' e ≡ true
       own-done own =
           let once = first-sticks-once L sound f ∙ ap as_number is-first in
-          let none : occurrences (walk_of L) f (left L c') ≡ 0 =
+          let none : occurrences (walk_of L) f left' ≡ 0 =
           omega (arith, counts f, m.most f, ap as_number (same_self f)) in
-          ap (λ (y : Edge). eqb (occurrences (walk_of L) y (left L c')) 0) own ∙ ap (λ (n : ℕ). eqb n 0) none
+          ap (λ (y : Edge). eqb (occurrences (walk_of L) y left') 0) own ∙ ap (λ (n : ℕ). eqb n 0) none
 
       own-clear : g ≡ f → has s (number L.size e) ≡ false
       own-clear own =
           m.says e stick flat
-          ∙ and_no (on_bore L e) (ne_eqb (occurrences (walk_of L) g (left L c)) 0 (λ z. omega (arith, z, counts g, ap as_number (same_true (walk_of L) (laws L sound) own))))
+          ∙ and_no (on_bore L e) (ne_eqb (occurrences (walk_of L) g left) 0 (λ z. omega (arith, z, counts g, ap as_number (same_true (walk_of L) (laws L sound) own))))
 
-      said-own : is_on L f e ≡ true → has s' (number L.size e) ≡ (on_bore L e && done L c' e)
+      said-own : is_on L f e ≡ true → has s' (number L.size e) ≡ (on_bore L e && done L left' e)
       said-own on =
           let own : g ≡ f = on-only sound f is-first e on in
           let is : on_bore L e ≡ is_bore L f = rw stick (ap (is_bore L) own) in
@@ -137,27 +137,27 @@ module _ {L : Layer} (sound : Sound L) where
           ∙ sym is ∙ sym (and_yes (on_bore L e) (own-done own))
 
       -- e is on another contour: its bit is as before
-      said-other : is_on L f e ≡ false → has s' (number L.size e) ≡ (on_bore L e && done L c' e)
+      said-other : is_on L f e ≡ false → has s' (number L.size e) ≡ (on_bore L e && done L left' e)
       said-other away =
           let apart : same_edge g f ≡ false =
           same_false (walk_of L) (laws L sound) (λ q. true≢false (sym (subst (λ (y : Edge). is_on L y e ≡ true) q (on-first_of sound e stick)) ∙ away)) in
-          let counted : occurrences (walk_of L) g (left L c) ≡ occurrences (walk_of L) g (left L c') =
+          let counted : occurrences (walk_of L) g left ≡ occurrences (walk_of L) g left' =
           omega (arith, counts g, ap as_number apart) in
           both-sides (is_bore L f)
           (λ b. ap (λ (x : List ℕ). has x (number L.size e)) (work-bore b) ∙ mark-off f is-first s m.kept e stick away)
           (λ b. ap (λ (x : List ℕ). has x (number L.size e)) (work_none b))
           ∙ m.says e stick flat ∙ ap (λ (n : ℕ). on_bore L e && eqb n 0) counted
 
-    pub bores-turn : BoresMarked L c' s'
+    pub bores-turn : BoresMarked L left' s'
     bores-turn = record {
-      placed = moved.placed;
+      firsts = firsts-turn m.firsts next;
       kept = both-sides (is_bore L f) (λ b. rw (work-bore b) (mark-ok f is-first s m.kept)) (λ b. rw (work_none b) m.kept);
       most = λ y. omega (arith, counts y, m.most y);
       says = λ e stick flat. both-sides (is_on L f e) (said-own e stick flat) (said-other e stick flat);
     }
 
   -- none is left
-  pub bores-end : {c : Cursor} {s : List ℕ} → BoresMarked L c s → left L c ≡ [] → BoreSet L s
+  pub bores-end : {left : List Edge} {s : List ℕ} → BoresMarked L left s → left ≡ [] → BoreSet L s
   unfolding occurrences
   bores-end {s = s} m none = record {
     sound = sound;
@@ -168,6 +168,6 @@ module _ {L : Layer} (sound : Sound L) where
         ∙ and_yes (on_bore L (east c r)) (ap (λ (l : List Edge). eqb (occurrences (walk_of L) (first_of L (east c r)) l) 0) none);
   }
 
-  pub bores-markable : {c : Cursor} {s : List ℕ} → BoresMarked L c s → first (walk_of L) c.stick ≡ true → Markable L s c.stick
-  bores-markable {c} m is-first =
-      record { sound = sound; stick = first_one (walk_of L) (laws L sound) c.stick is-first; sized = m.kept.0 }
+  pub bores-markable : {left left' : List Edge} {f : Edge} {s : List ℕ} → BoresMarked L left s → left ≡ f ∷ left' → Markable L s f
+  bores-markable {f = f} m next =
+      record { sound = sound; stick = first_one (walk_of L) (laws L sound) f (here-first m.firsts next); sized = m.kept.0 }

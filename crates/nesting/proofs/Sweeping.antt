@@ -1,24 +1,27 @@
--- What the sweep keeps: over a stick, along the sticks of a byte, and along a row.
+-- What the sweep keeps: over a stick, along the sticks of a byte, and along a row; and where it may begin.
 use mathlib.Core.Path.{◌≡◌, refl, ap, sym, ◌∙◌, subst}
 use mathlib.Core.Bool.{Bool, true, false, not, beq}
 use mathlib.Core.List.{List}
 use Prim.Native.Nat.{ℕ, zero, suc, ◌+◌, ◌-◌, ◌*◌, ◌/◌, ◌%◌, ◌^◌, min, ◌≤◌, ◌<◌}
 use native.Mathlib.Nat.{add-zero, div-add-mod'}
 use native.Mathlib.Omega.{arith}
+use Rattle.bitset.specs.Bits.{OneTaken}
+use Rattle.bitset.specs.declared.ones.Ones.{Ones}
 use Rattle.arith.specs.Ranges.{least}
 use Rattle.arith.proofs.Booleans.{beq-yes, beq-no}
 use Rattle.grid.specs.Layer.{Layer, bit, sample, stride}
 use Rattle.grid.specs.Edges.{is_stick, StickBits}
 use Rattle.grid.specs.Questions.{Sized, Sound}
+use Rattle.grid.specs.declared.edge.Edge.{Edge}
 use Rattle.grid.proofs.Numbers.{WithinGrid}
-use Rattle.step.proofs.Walks.{stick-within}
+use Rattle.step.proofs.Walks.{stick-within, stick-sample}
 use Rattle.contour.proofs.Bytes.{Left, left-start, left-found, left-shift, left-next, left-done}
 use Rattle.bitset.specs.Sets.{has, set_bits}
 use Rattle.contour.proofs.Scans.{place-below, horizontal-number}
 use Rattle.winding.specs.Turns.{east, contours_around}
-use Rattle.winding.proofs.Counts.{around-same, around-more, around-less, around-few}
+use Rattle.winding.proofs.Counts.{around-same, around-more, around-less, around-few, around-west}
 use Rattle.nesting.specs.Bores.{BoreSet}
-use Rattle.nesting.specs.Sweeps.{Swept, SweptAt}
+use Rattle.nesting.specs.Sweeps.{Counted, Swept, SweptAt}
 use Rattle.nesting.specs.declared.sweep.Sweep.{Sweep}
 
 module _ {L : Layer} (sound : Sound L) (r : ℕ) where
@@ -109,10 +112,6 @@ module _ {L : Layer} {r end : ℕ} where
     pub byte-room : c + z < 8 * at + 8
     byte-room = found.0
 
-    pub byte-narrow : Sound L → c + z < 1023
-    byte-narrow sound =
-        omega (arith, (stick-within L sound (east (c + z) r) found.1).column_below, sound.whole.sized.narrow)
-
     module _ (sound : Sound L) where
       -- the lowest bit is the next stick: if it is not past the end the sweep stands at it,
       pub byte-stick : SweptAt L (record { row = r; column = c + z; around = n })
@@ -143,6 +142,22 @@ module _ {L : Layer} {r end : ℕ} where
       b.counted
       ∙ sym (none_between sound r (omega (arith, b.reach, b.in_byte)) (λ k a h. left-done L false at r c x b.left none k a (omega arith)))
 
+-- the same as the bits of the byte come, one after the other, of which the first is that of column c
+module _ {L : Layer} {r end at n : ℕ} (c : ℕ) {s : Ones} (b : ByteSwept L at r end s.left (c + s.at) n) {k z : ℕ} {s' : Ones} (taken : OneTaken s k s' z) where
+  place : c + s.at + z ≡ c + k
+  place = omega (arith, taken.here)
+
+  pub one-stick : Sound L → SweptAt L (record { row = r; column = c + k; around = n })
+  one-stick sound = rw place at (byte-stick b taken.lowest taken.below sound)
+
+  pub one_past : Sound L → end ≤ c + k → n ≡ contours_around L (min (8 * at + 8) end) r
+  one_past sound past = byte_past b taken.lowest taken.below sound (omega (arith, place))
+
+  pub one-turn : {m : ℕ} → c + k < end → m ≡ contours_around L (c + k + 1) r → ByteSwept L at r end s'.left (c + s'.at) m
+  one-turn less counted =
+      let next : c + s'.at ≡ c + s.at + z + 1 = omega (arith, taken.next) in
+      rw (taken.left, next) (byte-turn b taken.lowest taken.below (omega (arith, place)) (rw (sym place) at counted))
+
 -- Along the row, from byte to byte
 
 module _ {L : Layer} {w : Sweep} {end : ℕ} (swept : Swept L w end) where
@@ -160,3 +175,23 @@ module _ {L : Layer} {w : Sweep} {end : ℕ} (swept : Swept L w end) where
   row_last past =
       let e : w.column ≡ end = omega (arith, swept.reach) in
       swept.counted ∙ ap (λ (k : ℕ). contours_around L k w.row) e
+
+-- Where a sweep to the west end of a stick may begin
+
+module _ {L : Layer} (sound : Sound L) (e : Edge) (stick : is_stick L e ≡ true) where
+  west : (e.column < L.size.width) × (e.row < L.size.height)
+  west = stick-sample L sound e.vertical e.column e.row stick
+
+  -- at the row's border, which no contour is around
+  pub from-border : {w : Sweep} → w ≡ record { row = e.row; column = 0; around = 0 } → Swept L w e.column
+  from-border is = rw is (record {
+    row_below = west.1;
+    reach = omega arith;
+    within = west.0;
+    counted = sym (around-west sound e.row west.1);
+  })
+
+  -- farther west in the row
+  pub from-west : {w at : Sweep} → w ≡ at → Counted L at → at.row ≡ e.row → at.column ≤ e.column → Swept L w e.column
+  from-west is counted row reach =
+      rw is (record { row_below = rw row west.1; reach = reach; within = west.0; counted = counted })

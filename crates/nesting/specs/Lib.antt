@@ -1,4 +1,5 @@
--- What the crate's contracts cite: the set of sticks on bores, a sweep along a row, and a cursor with depths.
+-- What the crate's contracts cite: the set of sticks on bores, a sweep along a row, and what is left of the contours with their depths.
 pub mod Bores
 pub mod Sweeps
-pub mod Cursors
+pub mod Depths
+pub mod Remaining

@@ -1,9 +1,13 @@
-// Which contours lie within which: the set of sticks on bores, and a cursor over the contours that knows the depth of each.
+// Which contours lie within which: the set of sticks on bores, and the contours to go over with the depth of each.
 #![tactic(auto)]
 
 mod bore;
-mod cursor;
+mod descent;
+mod nested;
+mod set;
 mod sweep;
 
 pub use bore::bore_sticks;
-pub use cursor::{Nested, first_nested, next_nested};
+pub use descent::NestedFirsts;
+pub use nested::{Nested, nested_of};
+pub use set::Nesting;

@@ -1,27 +1,23 @@
 -- Question 7 as the code asks it of a sheet: from a kept vertex on to the next one, along a contour, and over all contours.
-use mathlib.Core.Path.{◌≡◌, sym, ◌∙◌}
+use mathlib.Core.Path.{◌≡◌, sym, ap, ◌∙◌}
 use mathlib.Core.Bool.{true, false}
-use mathlib.Core.List.{List}
-use Prim.Native.Nat.{ℕ, ◌+◌, ◌≤◌, ◌<◌}
+use mathlib.Core.List.{List, [], ◌∷◌, ◌++◌, append_assoc}
+use Prim.Native.Nat.{ℕ, ◌+◌, ◌*◌, ◌≤◌, ◌<◌}
+use native.Mathlib.Omega.{arith}
 use borrow.Author.Tests.{eq-eqb, ne_eqb, le-leb, lt-leb}
-use lib.ListN.{get_or}
-use Rattle.arith.specs.Booleans.{as_number}
+use lib.ListN.{length, get_or, length-append}
 use Rattle.std.specs.Prelude.{Some, None}
 use Rattle.grid.specs.Layer.{Layer}
 use Rattle.grid.specs.Edges.{is_stick, edge_count}
-use Rattle.grid.specs.Questions.{Sound}
+use Rattle.grid.specs.Questions.{Yes, Sound}
 use Rattle.grid.specs.declared.edge.Edge.{Edge}
-use Rattle.grid.specs.declared.question.Answer.TheVariants.{Yes}
 use Rattle.step.specs.Walk.{next, prev}
-use Rattle.contour.specs.Contours.{same_edge}
-use Rattle.contour.specs.Sets.{FirstSet}
-use Rattle.contour.specs.Cursors.{left, Opened, Moved}
-use Rattle.contour.specs.declared.cursor.Cursor.{Cursor}
-use Rattle.contour.proofs.Cursors.{here-stick}
+use Rattle.contour.specs.Contours.{contour_of, first_sticks}
+use Rattle.contour.proofs.Firsts.{here-stick}
 use Rattle.table.specs.Vertices.{kept_at, removed_at}
 use Rattle.drawn.specs.Drawn.{edge_crosses}
 use Rattle.drawn.proofs.GapWalk.{forth, Passed, passed_start, passed-below, passed-turn, passed-last}
-use Rattle.held.proofs.Asking.{Cleared, Counted, counted_start, counted-no, counted-turn, counted-last, Asked, ask-start, ask-next}
+use Rattle.held.proofs.Asking.{Done, Counted, counted_start, counted-no, counted-turn, counted-end, Asked, ask-start, ask-next}
 use Rattle.formed.specs.Expected.{sheet_answer}
 use Rattle.formed.specs.Asked.{ContoursExpected}
 use Rattle.formed.proofs.Contours.{expected-start, expected-next, expected-here}
@@ -29,7 +25,7 @@ use Rattle.reading.specs.Reading.{described}
 use Rattle.reading.specs.Places.{VertexExpected, VertexAfter, VerticesStand, EndsAt, ContourChecked}
 use Rattle.reading.specs.declared.holding.Vertex.{Vertex}
 use Rattle.reading.proofs.Described.{described-length}
-use Rattle.reading.proofs.Vertices.{first-expected, vertex-stick, vertex-more, vertex-last, removed-is, vertices-stand}
+use Rattle.reading.proofs.Vertices.{vertex-stick, vertex-along, removed-is, vertices-stand}
 
 -- On from the kept vertex v over `gap` removed ones: the walk stands at `at`
 
@@ -65,67 +61,76 @@ module _ {L : Layer} {s : List ℕ} {first v : Vertex} (stand : VerticesStand L 
           (removed-is stand after.expected bytes ∙ ne_eqb _ _ letter) in
           record { kept = end.kept; gap = end.gap; expected = after.expected }
 
--- Along a contour: the walk stands at the vertex v, and `kept` vertices before it are kept
+-- Along a contour: the vertices of `left` are still to come, the first of them at `place`, and `kept` of those before it are kept
 
-pub record CountedAt (L : Layer) (s : List ℕ) (first v : Vertex) (kept : ℕ) : Type 0 where
-  pub counted : Counted L (described L s) first.stick v.stick kept
-  pub expected : VertexExpected L first v
+pub record CountedAt (L : Layer) (s : List ℕ) (first : Vertex) (left : List Edge) (place kept : ℕ) : Type 0 where
+  pub counted : Counted L (described L s) first.stick left kept
+  pub before : List Edge
+  pub joined : before ++ left ≡ contour_of L first.stick
+  pub at : place ≡ first.place + 2 * length before
 
 module _ {L : Layer} {s : List ℕ} {first : Vertex} where
-  pub at-start : VerticesStand L s first → CountedAt L s first first 0
-  at-start stand =
+  pub at-start : VerticesStand L s first → {left : List Edge} → left ≡ contour_of L first.stick → CountedAt L s first left first.place 0
+  at-start stand e =
       record {
-        counted = counted_start (record { sound = stand.sound; exact = described-length L s; stick = stand.start_stick });
-        expected = first-expected stand.sound stand.start_stick;
+        counted = counted_start (record { sound = stand.sound; exact = described-length L s; stick = stand.start_stick }) e;
+        before = [];
+        joined = e;
+        at = omega arith;
       }
 
-  module _ (sound : Sound L) {v : Vertex} {kept : ℕ} (here : CountedAt L s first v kept) where
-    pub at-no : kept_at L (described L s) v.stick ≡ true → edge_crosses L (described L s) v.stick ≡ false → ContourChecked L s first None
-    at-no is-kept missed = record { held = counted-no sound here.counted is-kept missed; after = tt }
+  module _ {left : List Edge} {place kept : ℕ} (here : CountedAt L s first left place kept) where
+    module _ (sound : Sound L) {x : Edge} {later : List Edge} (next : left ≡ x ∷ later) where
+      joined-next : here.before ++ (x ∷ later) ≡ contour_of L first.stick
+      joined-next = ap (λ (l : List Edge). here.before ++ l) (sym next) ∙ here.joined
 
-    -- the work on v is done, and the walk goes on, or is back
-    module _ {e : Edge} {kept' : ℕ} (step : e ≡ next L v.stick) (yes : Cleared L (described L s) v.stick)
-        (more : kept' ≡ kept + as_number (kept_at L (described L s) v.stick)) where
-      pub at_turn : same_edge e first.stick ≡ false → CountedAt L s first (record { stick = e; place = v.place + 2 }) kept'
-      at_turn differ =
+      -- the vertex that comes next
+      pub at-vertex : VertexExpected L first (record { stick = x; place = place })
+      at-vertex = vertex-along sound here.counted.lap.first here.before later joined-next here.at
+
+      pub at-no : kept_at L (described L s) x ≡ true → edge_crosses L (described L s) x ≡ false → ContourChecked L s first None
+      at-no is-kept missed = record { held = counted-no here.counted sound next is-kept missed; after = tt }
+
+      -- the work on it is done
+      pub at_turn : {kept' : ℕ} → Done L (described L s) x kept kept' → CountedAt L s first later (place + 2) kept'
+      at_turn done =
           record {
-            counted = counted-turn sound here.counted step yes more differ;
-            expected = vertex-more sound here.expected step differ;
+            counted = counted-turn here.counted sound next done;
+            before = here.before ++ (x ∷ []);
+            joined = append_assoc here.before (x ∷ []) later ∙ joined-next;
+            at = omega (arith, here.at, length-append here.before (x ∷ []));
           }
 
-      module _ (back : same_edge e first.stick ≡ true) where
-        pub at-held : 3 ≤ kept' → ContourChecked L s first (Some (v.place + 2))
-        at-held enough =
-            record {
-              held = sym (le-leb 3 kept' enough) ∙ counted-last sound here.counted step yes more back;
-              after = vertex-last sound here.expected step back;
-            }
+    -- none is left
+    module _ (over : left ≡ []) where
+      pub at-held : 3 ≤ kept → ContourChecked L s first (Some place)
+      at-held enough =
+          record {
+            held = sym (le-leb 3 kept enough) ∙ counted-end here.counted over;
+            after = omega (arith, here.at, ap length here.joined, length-append here.before left, ap length over);
+          }
 
-        pub at-few : kept' < 3 → ContourChecked L s first None
-        at-few few = record { held = sym (lt-leb 3 kept' few) ∙ counted-last sound here.counted step yes more back; after = tt }
+      pub at-few : kept < 3 → ContourChecked L s first None
+      at-few few = record { held = sym (lt-leb 3 kept few) ∙ counted-end here.counted over; after = tt }
 
--- All contours: those from the cursor on are expected from `place` on, and the first of them that is not held is the first of all
+-- All contours: those of the first sticks `left` are expected from `place` on, and the first of them that is not held is the first of all
 
-pub record AskedFrom (L : Layer) (s : List ℕ) (place : ℕ) (c : Cursor) : Type 0 where
-  pub asked : Asked L (described L s) c
-  pub expected : ContoursExpected L (left L c) place
+pub record AskedFrom (L : Layer) (s : List ℕ) (place : ℕ) (left : List Edge) : Type 0 where
+  pub asked : Asked L (described L s) left
+  pub expected : ContoursExpected L left place
 
-module _ {L : Layer} {s : List ℕ} {c : Cursor} where
-  pub asked-start : Opened L c → AskedFrom L s 5 c
-  asked-start o = record { asked = ask-start o; expected = expected-start o }
+module _ {L : Layer} {s : List ℕ} {left : List Edge} where
+  pub asked-start : left ≡ first_sticks L → AskedFrom L s 5 left
+  asked-start e = record { asked = ask-start e; expected = expected-start e }
 
-  module _ {place : ℕ} (here : AskedFrom L s place c) where
-    -- the contour of the cursor
-    pub asked-stand : {m : List ℕ} → FirstSet L m → c.more ≡ true → sheet_answer L s ≡ Yes
-        → VerticesStand L s (record { stick = c.stick; place = place + 6 })
-    asked-stand set more yes-8 =
-        let placed = here.asked.placed in
-        vertices-stand (expected-here here.expected set placed more) s yes-8 set.sound (here-stick set placed more)
+  module _ {place : ℕ} (here : AskedFrom L s place left) {f : Edge} {later : List Edge} (next : left ≡ f ∷ later) where
+    -- the contour that comes next
+    pub asked-stand : Sound L → sheet_answer L s ≡ Yes → VerticesStand L s (record { stick = f; place = place + 6 })
+    asked-stand sound yes-8 = vertices-stand (expected-here here.expected next) s yes-8 sound (here-stick here.asked.firsts next sound)
 
-    pub asked-next : {end : ℕ} → ContourChecked L s (record { stick = c.stick; place = place + 6 }) (Some end)
-        → {c' : Cursor} → Moved L c c' → AskedFrom L s end c'
-    asked-next checked m =
+    pub asked-next : {end : ℕ} → ContourChecked L s (record { stick = f; place = place + 6 }) (Some end) → AskedFrom L s end later
+    asked-next checked =
         record {
-          asked = ask-next here.asked (sym checked.held) m;
-          expected = rw checked.after (expected-next here.expected m);
+          asked = ask-next here.asked next (sym checked.held);
+          expected = rw checked.after (expected-next here.expected next);
         }

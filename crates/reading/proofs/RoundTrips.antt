@@ -7,9 +7,8 @@ use native.Mathlib.Omega.{arith}
 use lib.ListN.{length, drop}
 use lib.Seq.{sets, take_at}
 use Rattle.grid.specs.Layer.{Layer}
-use Rattle.grid.specs.Questions.{first_no}
-use Rattle.grid.specs.declared.question.Answer.{Answer}
-use Rattle.grid.specs.declared.question.Answer.TheVariants.{Yes, No}
+use Rattle.std.specs.Prelude.{Err}
+use Rattle.grid.specs.Questions.{Answer, Yes, first_no}
 use Rattle.grid.proofs.Answers.{number-within, append-all}
 use Rattle.held.specs.Questions.{held_questions}
 use Rattle.held.proofs.Asking.{accepted-of, accepted-yes}
@@ -28,7 +27,7 @@ write-passes L t out done = go (first_no (held_questions L t ++ (room_answer L t
     go : (answer : Answer) → first_no (held_questions L t ++ (room_answer L t out ∷ [])) ≡ answer
         → first_no (held_questions L t ++ (room_answer L t out ∷ [])) ≡ Yes
     go Yes e = e
-    go (No q place) e = absurd (omega (arith, number-within q, done, ap (λ (o : Outcome). o.refusal) (written-by L t out (No q place) e)))
+    go (Err n) e = absurd (omega (arith, number-within n.question, done, ap (λ (o : Outcome). o.refusal) (written-by L t out (Err n) e)))
 
 pub round-trips : RoundTrips
 round-trips =

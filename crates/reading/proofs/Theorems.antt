@@ -7,9 +7,8 @@ use native.Mathlib.Decide.{ℕ_discrete}
 use native.Mathlib.Omega.{arith}
 use lib.ListN.{length, get_or}
 use Rattle.grid.specs.Layer.{Layer}
-use Rattle.grid.specs.Questions.{first_no, Sound}
-use Rattle.grid.specs.declared.question.Answer.{Answer}
-use Rattle.grid.specs.declared.question.Answer.TheVariants.{Yes, No}
+use Rattle.std.specs.Prelude.{Err}
+use Rattle.grid.specs.Questions.{Answer, Yes, first_no, Sound}
 use Rattle.grid.proofs.Answers.{number-within, append-all, first_no-yes}
 use Rattle.table.specs.Entries.{length_questions}
 use Rattle.table.proofs.Lengths.{lengths-of}
@@ -17,7 +16,6 @@ use Rattle.held.specs.Held.{held_answer}
 use Rattle.held.specs.Questions.{Accepted}
 use Rattle.formed.specs.Expected.{sheet_answer}
 use Rattle.reading.specs.Reading.{described, Outcome, read_of, outcome}
-use Rattle.reading.specs.declared.read.SheetRead.{SheetRead}
 use Rattle.reading.specs.Places.{answered_by}
 use Rattle.reading.proofs.Described.{described-length}
 use Rattle.reading.proofs.Vertices.{described-entries}
@@ -55,7 +53,7 @@ module _ (L : Layer) (t s : List ℕ) where
             held = seven.0;
             left = ap (λ (o : Outcome). o.table) (answer-is Yes e);
           }
-      go (No q place) e = absurd (omega (arith, number-within q, done, ap (λ (o : Outcome). o.refusal) (answer-is (No q place) e)))
+      go (Err n) e = absurd (omega (arith, number-within n.question, done, ap (λ (o : Outcome). o.refusal) (answer-is (Err n) e)))
 
   -- A sheet of bytes that is read leaves an accepted layer.
   pub read-opens : ((k : ℕ) → get_or s k 0 < 256) → (read_of L t s).refusal ≡ 0 → Accepted L (read_of L t s).table
@@ -75,7 +73,7 @@ module _ (L : Layer) (t s : List ℕ) where
     where
       go : (answer : Answer) → first_no answers ≡ answer → (read_of L t s).table ≡ t
       go Yes e = absurd (refused (ap (λ (o : Outcome). o.refusal) (answer-is Yes e)))
-      go (No q place) e = ap (λ (o : Outcome). o.table) (answer-is (No q place) e)
+      go (Err n) e = ap (λ (o : Outcome). o.table) (answer-is (Err n) e)
 
   -- So, whatever the answer is, an accepted layer stays one.
   pub read_keeps : ((k : ℕ) → get_or s k 0 < 256) → Accepted L t → Accepted L (read_of L t s).table
@@ -85,6 +83,6 @@ module _ (L : Layer) (t s : List ℕ) where
   ]
 
   -- the table at exit, whatever the answer
-  pub read-leaves : {u : List ℕ} (r : SheetRead) → outcome r u ≡ read_of L t s → u ≡ (read_of L t s).table
-  read-leaves SheetRead.Done promised = λ i. (promised i).table
-  read-leaves (SheetRead.Refused q place) promised = λ i. (promised i).table
+  pub read-leaves : {u : List ℕ} (answer : Answer) → outcome answer u ≡ read_of L t s → u ≡ (read_of L t s).table
+  read-leaves Yes promised = λ i. (promised i).table
+  read-leaves (Err e) promised = λ i. (promised i).table

@@ -3,27 +3,27 @@
 use mathlib.Core.Path.{◌≡◌, refl, sym, ◌∙◌, ap}
 use mathlib.Core.Logic.{◌⊎◌, inl, inr}
 use mathlib.Core.Bool.{Bool, true, false, cond, not, ◌&&◌}
-use mathlib.Core.List.{List, [], ◌∷◌}
+use mathlib.Core.List.{List, [], ◌∷◌, ◌++◌}
 use Prim.Native.Nat.{ℕ, suc, ◌+◌, ◌*◌, ◌≤◌, ◌<◌}
 use native.Mathlib.Nat.{eq-or-lt_of_le}
 use native.Mathlib.Omega.{arith}
 use borrow.Author.Tests.{eqb-true, ltb-true}
 use lib.Dec.{eqb, ltb}
-use lib.ListN.{length, get_or}
+use lib.ListN.{length, get_or, length-append}
+use lib.Seq.{get_or-append_seam}
 use Rattle.arith.specs.Booleans.{as_number}
 use Rattle.arith.proofs.Booleans.{both-sides, and_split}
 use Rattle.grid.specs.Layer.{Layer}
 use Rattle.grid.specs.Edges.{number, edge_at, edge_count, is_stick, stick_at}
-use Rattle.grid.specs.Questions.{Sound}
+use Rattle.grid.specs.Questions.{Yes, Sound}
 use Rattle.grid.specs.declared.edge.Edge.{Edge}
-use Rattle.grid.specs.declared.question.Refusal.TheVariants.{WrongEntry}
-use Rattle.grid.specs.declared.question.Answer.TheVariants.{Yes}
+use Rattle.grid.specs.declared.refusal.Refusal.TheVariants.{WrongEntry}
 use Rattle.grid.proofs.Answers.{each-yes}
 use Rattle.grid.proofs.Numbers.{edge_at-within}
 use Rattle.step.specs.Walk.{next}
 use Rattle.contour.specs.Walk.{ahead}
 use Rattle.contour.specs.Contours.{walk_of, contour_of, same_edge}
-use Rattle.contour.proofs.Orbit.{ahead-next, ahead-one, round, unlike}
+use Rattle.contour.proofs.Orbit.{ahead-next, ahead-one, contour-at, round, unlike}
 use Rattle.contour.proofs.Sticks.{laws, stick-in}
 use Rattle.chord.specs.Runs.{NearEdge}
 use Rattle.table.specs.Entries.{entry_of, encoded, suits, wrong, wrong_at, entries_answer}
@@ -78,7 +78,7 @@ vertex-says a o h small =
 -- Along a contour
 
 module _ {L : Layer} {first : Vertex} where
-  pub first-expected : Sound L → is_stick L first.stick ≡ true → VertexExpected L first first
+  first-expected : Sound L → is_stick L first.stick ≡ true → VertexExpected L first first
   unfolding ahead
   first-expected sound stick =
       record {
@@ -99,7 +99,7 @@ module _ {L : Layer} {first : Vertex} where
       unfolding ahead
       reached = ahead-next (walk_of L) x.index first.stick ∙ ap (next L) x.met ∙ sym step
 
-      pub vertex-more : same_edge e first.stick ≡ false → VertexExpected L first (record { stick = e; place = v.place + 2 })
+      vertex-more : same_edge e first.stick ≡ false → VertexExpected L first (record { stick = e; place = v.place + 2 })
       vertex-more differ =
           let f = first.stick in
           let r = round (walk_of L) (laws L sound) f x.start_stick in
@@ -118,14 +118,21 @@ module _ {L : Layer} {first : Vertex} where
           (λ same. rw (at ∙ ap (λ (back : Bool). cond back first.place (v.place + 2)) same) (vertex-back same))
           (λ differ. rw (at ∙ ap (λ (back : Bool). cond back first.place (v.place + 2)) differ) (vertex-more differ))
 
-      pub vertex-last : same_edge e first.stick ≡ true → v.place + 2 ≡ first.place + 2 * length (contour_of L first.stick)
-      unfolding ahead
-      vertex-last same =
-          let r = round (walk_of L) (laws L sound) first.stick x.start_stick in
-          elim (eq-or-lt_of_le x.within) [
-            | inl q ↦ omega (arith, x.place)
-            | inr l ↦ absurd (r.apart 0 (suc x.index) (omega arith) l (sym (reached ∙ (laws L sound).same_eq e first.stick same)))
-          ]
+  -- the vertex of the stick after so many others of the contour
+  pub vertex-along : Sound L → is_stick L first.stick ≡ true → (before later : List Edge) {x : Edge} → before ++ (x ∷ later) ≡ contour_of L first.stick
+      → {i : ℕ} → i ≡ first.place + 2 * length before → VertexExpected L first (record { stick = x; place = i })
+  vertex-along sound stick before later {x} joined at =
+      let f = first.stick in
+      let within : length before < length (contour_of L f) = omega (arith, ap length joined, length-append before (x ∷ later)) in
+      record {
+        start_stick = stick;
+        index = length before;
+        within = within;
+        met =
+            sym (contour-at (walk_of L) (laws L sound) f f (length before) stick within)
+            ∙ ap (λ (l : List Edge). get_or l (length before) f) (sym joined) ∙ get_or-append_seam before x later f;
+        place = at;
+      }
 
 -- What stands at the place of v, and what the described table says of its stick
 

@@ -14,10 +14,9 @@ use Rattle.arith.specs.Booleans.{as_number}
 use Rattle.arith.proofs.Booleans.{both-sides, and_split}
 use Rattle.grid.specs.Layer.{Layer}
 use Rattle.grid.specs.Edges.{number, edge_at, edge_count, is_stick, stick_at}
-use Rattle.grid.specs.Questions.{first_no, Sound}
+use Rattle.grid.specs.Questions.{Yes, first_no, Sound}
 use Rattle.grid.specs.declared.edge.Edge.{Edge}
-use Rattle.grid.specs.declared.question.Refusal.TheVariants.{WrongEntry}
-use Rattle.grid.specs.declared.question.Answer.TheVariants.{Yes}
+use Rattle.grid.specs.declared.refusal.Refusal.TheVariants.{WrongEntry}
 use Rattle.grid.proofs.Answers.{each_all, append-all, append-yes}
 use Rattle.grid.proofs.Numbers.{edge_at-within}
 use Rattle.contour.specs.Walk.{occurrences}

@@ -4,9 +4,8 @@ use Rattle.std.specs.Option.{is_some}
 use mathlib.Core.List.{List, [], ◌∷◌, foldl}
 use Rattle.grid.specs.Layer.{Layer}
 use Rattle.grid.specs.Edges.{number, is_stick}
-use Rattle.grid.specs.Questions.{first_no, if_all_yes, number_of, Sound}
+use Rattle.grid.specs.Questions.{Answer, first_no, if_all_yes, number_of, Sound}
 use Rattle.grid.specs.declared.edge.Edge.{Edge}
-use Rattle.grid.specs.declared.question.Answer.{Answer}
 use Rattle.step.specs.Walk.{next}
 use Rattle.contour.specs.Walk.{ahead}
 use Rattle.contour.specs.Contours.{walk_of, contour_of}

@@ -1,18 +1,16 @@
 -- A sheet read against a bitmap: the table that a well-formed sheet describes, and the call that reads it.
-use Rattle.std.specs.Prelude.{cond, ℕ, ◌+◌, eqb, length, get_or}
+use Rattle.std.specs.Prelude.{Err, cond, ℕ, ◌+◌, eqb, length, get_or}
 use mathlib.Core.List.{List, [], ◌∷◌, ◌++◌, foldl}
 use Rattle.arith.specs.Ranges.{tabulate}
 use Rattle.grid.specs.Layer.{Layer}
 use Rattle.grid.specs.Edges.{edge_count}
-use Rattle.grid.specs.Questions.{first_no, if_all_yes, number_of}
+use Rattle.grid.specs.Questions.{Answer, Yes, first_no, if_all_yes, number_of}
 use Rattle.table.specs.Entries.{encoded, length_questions}
 use Rattle.table.specs.Stores.{store}
 use Rattle.table.specs.declared.entry.Entry.{Entry}
 use Rattle.table.specs.declared.entry.Entry.TheVariants.{Nothing, Kept, Removed, Pinned}
 use Rattle.held.specs.Held.{held_answer}
 use Rattle.formed.specs.Expected.{Expected, these, vertex_of, expected_sheet, sheet_answer}
-use Rattle.reading.specs.declared.read.SheetRead.{SheetRead}
-use Rattle.reading.specs.declared.read.SheetRead.TheVariants.{Done, Refused}
 
 -- the entry that a vertex command gives its stick, by its letter and offset: "K (hex 4B, kept) or R (hex 52, removed) and its offset byte", and
 -- "N (hex 4E) and the offset for a pinned one" (Note 5); question 8 lets no other letter pass
@@ -56,6 +54,6 @@ read_of L t s =
     (record { refusal = 0; place = 0; table = described L s })
 
 -- the outcome that an answer and the table at exit stand for
-abbrev pub outcome : SheetRead → List ℕ → Outcome
-outcome Done t = record { refusal = 0; place = 0; table = t }
-outcome (Refused q place) t = record { refusal = number_of q; place = place; table = t }
+abbrev pub outcome : Answer → List ℕ → Outcome
+outcome Yes t = record { refusal = 0; place = 0; table = t }
+outcome (Err e) t = record { refusal = number_of e.question; place = e.place; table = t }

@@ -5,4 +5,4 @@ mod fill;
 mod holding;
 mod read;
 
-pub use read::{SheetRead, read_sheet};
+pub use read::read_sheet;

@@ -6,9 +6,8 @@ use Prim.Native.Nat.{ℕ}
 use Rattle.arith.specs.Ranges.{least_from}
 use Rattle.grid.specs.Layer.{Layer, layer_of, size_of, sample, bit}
 use Rattle.grid.specs.Edges.{number, edge_count, edge_at, is_stick}
-use Rattle.grid.specs.Questions.{sides_answer, length_answer, spare_answer, border_answer}
-use Rattle.grid.specs.declared.question.Refusal.TheVariants.{Malformed}
-use Rattle.grid.specs.declared.question.Answer.TheVariants.{No}
+use Rattle.grid.specs.Questions.{sides_answer, length_answer, spare_answer, border_answer, No}
+use Rattle.grid.specs.declared.refusal.Refusal.TheVariants.{Malformed}
 use Rattle.step.specs.Walk.{next, prev}
 use Rattle.contour.specs.Walk.{firsts_among}
 use Rattle.chord.specs.Crossing.{off, parted, crosses, slides_within}

@@ -8,9 +8,8 @@ use native.Mathlib.Omega.{arith}
 use borrow.Author.Tests.{le-leb, lt-leb, ne_eqb}
 use lib.Dec.{eqb}
 use lib.ListN.{length, get_or, get_or-eq_default}
-use Rattle.grid.specs.declared.question.Refusal.TheVariants.{Malformed}
-use Rattle.grid.specs.declared.question.Answer.{Answer}
-use Rattle.grid.specs.declared.question.Answer.TheVariants.{No}
+use Rattle.grid.specs.declared.refusal.Refusal.TheVariants.{Malformed}
+use Rattle.grid.specs.Questions.{Answer, No}
 use Rattle.edit.specs.Edits.{Named, ask_at}
 use Rattle.roll.specs.Commands.{Command, slides, removes, pins, ends, wrong, named_at, command_at, well_formed, formed_from, roll_answer}
 

@@ -3,19 +3,17 @@
 use mathlib.Core.Path.{◌≡◌, refl}
 use mathlib.Core.List.{List, [], ◌∷◌, ◌++◌}
 use Prim.Native.Nat.{ℕ, zero, suc, ◌+◌}
+use Rattle.std.specs.Prelude.{Ok, Err}
 use lib.ListN.{length}
 use Rattle.grid.specs.Layer.{Layer}
-use Rattle.grid.specs.Questions.{first_no, if_all_yes}
-use Rattle.grid.specs.declared.question.Answer.{Answer}
-use Rattle.grid.specs.declared.question.Answer.TheVariants.{Yes, No}
+use Rattle.grid.specs.Questions.{first_no, if_all_yes, Answer, Yes}
 use Rattle.table.specs.Stores.{slid, without, pinned}
 use Rattle.table.specs.Pins.{PinsStay}
 use Rattle.table.proofs.Pins.{pins-same, pins-then, pin-pins}
 use Rattle.held.specs.Questions.{held_questions, Accepted}
 use Rattle.roll.specs.Commands.{Command, command_at, roll_answer, slides, removes, pins, ends, wrong}
 use Rattle.edit.specs.Edits.{Named, edge_named, slide_answer, removal_answer, pin_answer}
-use Rattle.roll.specs.Roll.{Outcome, run_from, roll_of, outcome}
-use Rattle.roll.specs.declared.rolling.Rolled.{Rolled}
+use Rattle.roll.specs.Roll.{Outcome, Rolled, run_from, roll_of, outcome}
 use Rattle.edit.proofs.Asked.{slide-keeps, slide-pins, removal-keeps, removal-pins, pin-keeps}
 use Rattle.roll.proofs.Steps.{run_by, refused}
 
@@ -30,7 +28,7 @@ module _ (L : Layer) (tolerance : ℕ) (P : List ℕ → Type 0) where
   by_answer : (answer : Answer) (done : ℕ) (t : List ℕ) (later : Outcome) → P t → (answer ≡ Yes → P later.table)
       → P (if_all_yes answer (refused done t) later).table
   by_answer Yes done t later a after = after refl
-  by_answer (No q place) done t later a after = a
+  by_answer (Err e) done t later a after = a
 
   module _ (r : List ℕ) (keeps : Keeps L tolerance P) where
     -- every command keeps it
@@ -74,5 +72,5 @@ module _ (L : Layer) (tolerance : ℕ) (r : List ℕ) where
 
   -- the table at exit, whatever the answer
   pub roll-leaves : (t : List ℕ) {u : List ℕ} (answer : Rolled) → outcome answer u ≡ roll_of L tolerance r t → u ≡ (roll_of L tolerance r t).table
-  roll-leaves t (Rolled.Done n) promised = λ i. (promised i).table
-  roll-leaves t (Rolled.Refused q place n) promised = λ i. (promised i).table
+  roll-leaves t (Ok n) promised = λ i. (promised i).table
+  roll-leaves t (Err e) promised = λ i. (promised i).table

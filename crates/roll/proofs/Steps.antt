@@ -8,11 +8,9 @@ use native.Mathlib.Decide.{dec_lt}
 use native.Mathlib.Omega.{arith}
 use lib.ListN.{length, get_or}
 use Rattle.grid.specs.Layer.{Layer}
-use Rattle.grid.specs.Questions.{if_all_yes, number_of}
-use Rattle.grid.specs.declared.question.Refusal.{Refusal}
-use Rattle.grid.specs.declared.question.Refusal.TheVariants.{Malformed}
-use Rattle.grid.specs.declared.question.Answer.{Answer}
-use Rattle.grid.specs.declared.question.Answer.TheVariants.{Yes, No}
+use Rattle.grid.specs.Questions.{if_all_yes, number_of, Answer, Yes}
+use Rattle.grid.specs.declared.refusal.Refusal.{Refusal}
+use Rattle.grid.specs.declared.refusal.Refusal.TheVariants.{Malformed}
 use Rattle.grid.proofs.Answers.{no-not-yes}
 use Rattle.table.specs.Stores.{slid, without, pinned}
 use Rattle.held.specs.Questions.{Accepted}
@@ -30,35 +28,34 @@ done-next known e is = e ∙ ap Ok is
 
 -- A step from an answer and a store
 
-step_by_lem : (answer : Answer) (after : ℕ) (t t' : List ℕ) {r : Step} {u : List ℕ} → r ≡ step_on answer after → u ≡ stored_if answer t t'
-    → stepped r u ≡ step_by answer after t t'
-step_by_lem Yes after t t' e s = λ i. stepped (e i) (s i)
-step_by_lem (No q place) after t t' e s = λ i. stepped (e i) (s i)
+step_by_lem : (answer : Answer) (after : ℕ) (t t' : List ℕ) {u : List ℕ} → u ≡ stored_if answer t t'
+    → stepped (step_on answer after) u ≡ step_by answer after t t'
+step_by_lem Yes after t t' s = ap (stepped (Ok (Some after))) s
+step_by_lem (Err e) after t t' s = ap (stepped (Err e)) s
 
--- of an edit that asks `f` and leaves `g`, on the stick s that the code read as s'
-step-made : (f : Named → Answer) (g : Named → List ℕ) (after : ℕ) (t : List ℕ) {r : Step} {u : List ℕ} {x : Answer} {s s' : Named} → s' ≡ s
-    → x ≡ f s' → r ≡ step_on x after → u ≡ stored_if x t (g s') → stepped r u ≡ step_by (f s) after t (g s)
-step-made f g after t {x = x} {s' = s'} same asked e stored =
-    step_by_lem x after t (g s') e stored ∙ ap (λ (y : Answer). step_by y after t (g s')) asked
-    ∙ ap (λ (y : Named). step_by (f y) after t (g y)) same
+-- of an edit that asks `f` and leaves `g`, on the stick s that the code read as s'; its answer x is known to be y
+step-made : (f : Named → Answer) (g : Named → List ℕ) (after : ℕ) (t : List ℕ) {u : List ℕ} {x y : Answer} {s s' : Named} → s' ≡ s
+    → x ≡ f s' → u ≡ stored_if x t (g s') → x ≡ y → stepped (step_on y after) u ≡ step_by (f s) after t (g s)
+step-made f g after t {u = u} {x = x} {s' = s'} same asked stored known =
+    ap (λ (z : Answer). stepped (step_on z after) u) (sym known)
+    ∙ step_by_lem x after t (g s') stored ∙ ap (λ (z : Answer). step_by z after t (g s')) asked
+    ∙ ap (λ (z : Named). step_by (f z) after t (g z)) same
 
-module _ (L : Layer) (tolerance i : ℕ) (t : List ℕ) {r : Step} {u : List ℕ} {x : Answer} {s s' : Named} (same : s' ≡ s) where
-  pub slide-step : (o : ℕ) → x ≡ slide_answer L tolerance t i s' o → r ≡ step_on x (i + 7) → u ≡ stored_if x t (slid L t (edge_named s') o)
-      → stepped r u ≡ slide_step L tolerance i t s o
+module _ (L : Layer) (tolerance i : ℕ) (t : List ℕ) {u : List ℕ} {x y : Answer} {s s' : Named} (same : s' ≡ s) where
+  pub slide-step : (o : ℕ) → x ≡ slide_answer L tolerance t i s' o → u ≡ stored_if x t (slid L t (edge_named s') o) → x ≡ y
+      → stepped (step_on y (i + 7)) u ≡ slide_step L tolerance i t s o
   unfolding slide_step
-  slide-step o asked e stored =
-      step-made (λ y. slide_answer L tolerance t i y o) (λ y. slid L t (edge_named y) o) (i + 7) t same asked e stored
+  slide-step o = step-made (λ z. slide_answer L tolerance t i z o) (λ z. slid L t (edge_named z) o) (i + 7) t same
 
-  pub removal-step : x ≡ removal_answer L tolerance t i s' → r ≡ step_on x (i + 6) → u ≡ stored_if x t (without L t (edge_named s'))
-      → stepped r u ≡ removal_step L tolerance i t s
+  pub removal-step : x ≡ removal_answer L tolerance t i s' → u ≡ stored_if x t (without L t (edge_named s')) → x ≡ y
+      → stepped (step_on y (i + 6)) u ≡ removal_step L tolerance i t s
   unfolding removal_step
-  removal-step asked e stored =
-      step-made (λ y. removal_answer L tolerance t i y) (λ y. without L t (edge_named y)) (i + 6) t same asked e stored
+  removal-step = step-made (λ z. removal_answer L tolerance t i z) (λ z. without L t (edge_named z)) (i + 6) t same
 
-pub pin-step : (L : Layer) (i : ℕ) (t : List ℕ) {r : Step} {u : List ℕ} {x : Answer} {s s' : Named} → s' ≡ s
-    → x ≡ pin_answer L t i s' → r ≡ step_on x (i + 6) → u ≡ stored_if x t (pinned L t (edge_named s')) → stepped r u ≡ pin_step L i t s
+pub pin-step : (L : Layer) (i : ℕ) (t : List ℕ) {u : List ℕ} {x y : Answer} {s s' : Named} → s' ≡ s
+    → x ≡ pin_answer L t i s' → u ≡ stored_if x t (pinned L t (edge_named s')) → x ≡ y → stepped (step_on y (i + 6)) u ≡ pin_step L i t s
 unfolding pin_step
-pin-step L i t same asked e stored = step-made (λ y. pin_answer L t i y) (λ y. pinned L t (edge_named y)) (i + 6) t same asked e stored
+pin-step L i t same = step-made (λ z. pin_answer L t i z) (λ z. pinned L t (edge_named z)) (i + 6) t same
 
 -- The command at a byte of a roll that passes question 8 from there on
 
@@ -185,7 +182,7 @@ module _ (L : Layer) (tolerance : ℕ) (r : List ℕ) where
       by : (answer : Answer) (j : ℕ) (t' : List ℕ)
           → if_all_yes answer (refused done t) (ran_from j (done + 1) t') ≡ ran-after done (step_by answer j t t')
       by Yes j t' = refl
-      by (No q place) j t' = refl
+      by (Err e) j t' = refl
 
       go : (c : Command) → command_at r i ≡ c
           → run_by i done t (λ j u. ran_from j (done + 1) u) (command_at r i) ≡ ran-after done (step_of L tolerance r i t)
@@ -218,7 +215,7 @@ module _ {j : ℕ} {t' : List ℕ} where
   on-yes : (answer : Answer) (after : ℕ) (t u : List ℕ) → step_by answer after t u ≡ stepped (Ok (Some j)) t'
       → (answer ≡ Yes) × (after ≡ j) × (u ≡ t')
   on-yes Yes after t u h = (refl, (let s : Ok (Some after) ≡ Ok (Some j) = ap (λ (x : Stepped). x.step) h in cc), ap (λ (x : Stepped). x.table) h)
-  on-yes (No q place) after t u h = absurd (stop-not-on (ap (λ (x : Stepped). x.step) h))
+  on-yes (Err e) after t u h = absurd (stop-not-on (ap (λ (x : Stepped). x.step) h))
 
   step-on : (L : Layer) (tolerance : ℕ) (r : List ℕ) (i : ℕ) (t : List ℕ) → Runnable L t r i
       → step_of L tolerance r i t ≡ stepped (Ok (Some j)) t' → WentOn L r i j t'

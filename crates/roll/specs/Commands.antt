@@ -2,9 +2,8 @@
 -- 45) ends the roll. A stick is kind (1 byte), column, row (16 bits each, low byte first)." "A roll gains P (hex 50) and a stick, which pins a
 -- kept vertex" (Note 5).
 use Rattle.std.specs.Prelude.{cond, List, ℕ, zero, suc, ◌+◌, ◌*◌, eqb, leb, length, get_or}
-use Rattle.grid.specs.declared.question.Refusal.TheVariants.{Malformed}
-use Rattle.grid.specs.declared.question.Answer.{Answer}
-use Rattle.grid.specs.declared.question.Answer.TheVariants.{No}
+use Rattle.grid.specs.declared.refusal.Refusal.TheVariants.{Malformed}
+use Rattle.grid.specs.Questions.{Answer, No}
 use Rattle.edit.specs.Edits.{Named, ask_at}
 
 pub data Command : Type 0 where

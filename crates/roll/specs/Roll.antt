@@ -1,13 +1,12 @@
 -- The call Roll: "with T: an edit roll of one-byte commands". "The whole roll passes 8 before an edit is made. 9 to 13 give the command's byte
 -- offset and the count done.", and so does 16 (Note 5).
-use Rattle.std.specs.Prelude.{List, [], ◌∷◌, ◌++◌, length}
+use Rattle.std.specs.Prelude.{List, [], ◌∷◌, ◌++◌, length, Result, Ok, Err}
 use Prim.Native.Nat.{ℕ, zero, suc, ◌+◌}
 use Rattle.grid.specs.Layer.{Layer}
 use Rattle.grid.specs.Questions.{first_no, if_all_yes, number_of}
 use Rattle.table.specs.Stores.{slid, without, pinned}
 use Rattle.held.specs.Questions.{held_questions}
-use Rattle.roll.specs.declared.rolling.Rolled.{Rolled}
-use Rattle.roll.specs.declared.rolling.Rolled.TheVariants.{Done, Refused}
+use Rattle.roll.specs.declared.rolling.RollRefused.{RollRefused}
 use Rattle.roll.specs.Commands.{command_at, roll_answer, slides, removes, pins, ends, wrong}
 use Rattle.edit.specs.Edits.{edge_named, slide_answer, removal_answer, pin_answer}
 
@@ -49,7 +48,11 @@ roll_of L tolerance r t =
     (λ q place. record { refusal = number_of q; place = place; done = 0; table = t })
     (run_from L tolerance r (length r + 1) 0 0 t)
 
+-- what Roll answers: the commands done, or why it is refused
+abbrev pub Rolled : Type 0
+Rolled = Result ℕ RollRefused
+
 -- what an answer and a table at exit say
 abbrev pub outcome : Rolled → List ℕ → Outcome
-outcome (Done n) t = record { refusal = 0; place = 0; done = n; table = t }
-outcome (Refused q place n) t = record { refusal = number_of q; place = place; done = n; table = t }
+outcome (Ok n) t = record { refusal = 0; place = 0; done = n; table = t }
+outcome (Err e) t = record { refusal = number_of e.question; place = e.place; done = e.done; table = t }

@@ -1,19 +1,17 @@
 -- One command of a roll as the code takes it: its result, and the table after it. Roll.antt has the commands one after the other.
 use Rattle.std.specs.Prelude.{◌≡◌, List, ℕ, ◌+◌, ◌≤◌, length, Option, Some, None, Result, Ok, Err}
 use Rattle.grid.specs.Layer.{Layer}
-use Rattle.grid.specs.Questions.{if_all_yes}
-use Rattle.grid.specs.declared.question.Refusal.{Refusal}
-use Rattle.grid.specs.declared.question.Refusal.TheVariants.{Malformed}
-use Rattle.grid.specs.declared.question.Answer.{Answer}
-use Rattle.grid.specs.declared.question.Answer.TheVariants.{Yes}
+use Rattle.grid.specs.Questions.{if_all_yes, Answer, Yes}
+use Rattle.grid.specs.declared.refusal.Refusal.{Refusal}
+use Rattle.grid.specs.declared.refusal.Refused.{Refused}
+use Rattle.grid.specs.declared.refusal.Refusal.TheVariants.{Malformed}
 use Rattle.table.specs.Stores.{slid, without, pinned}
 use Rattle.held.specs.Questions.{Accepted}
-use Rattle.roll.specs.declared.rolling.Stop.{Stop}
 use Rattle.roll.specs.Commands.{command_at, formed_from, slides, removes, pins, ends, wrong}
 use Rattle.edit.specs.Edits.{Named, edge_named, slide_answer, removal_answer, pin_answer}
 
 abbrev pub Step : Type 0
-Step = Result (Option ℕ) Stop
+Step = Result (Option ℕ) Refused
 
 abbrev pub stop : Refusal → ℕ → Step
 stop q place = Err (record { question = q; place = place })

@@ -1,6 +1,6 @@
 // The commands of an edit roll: question 8 over the whole roll, and a command taken apart.
 ghost use Rattle.std.specs.Prelude.{◌≡◌, ◌+◌, ◌≤◌, ◌<◌, length, get_or, eqb};
-ghost use Rattle.grid.specs.declared.question.Refusal.TheVariants.{Malformed};
+ghost use Rattle.grid.specs.declared.refusal.Refusal.TheVariants.{Malformed};
 ghost use Rattle.edit.specs.Edits.{ask_at};
 ghost use Rattle.roll.specs.Commands.{two_bytes, named_at, roll_answer};
 
@@ -33,9 +33,9 @@ fn ask_last(length: usize, at: usize) -> Answer
     ensures { result ≡ ask_at (at + 1) Malformed (eqb (at + 1) length) }
 {
     if at + 1 == length {
-        return Answer::Yes;
+        return Ok(());
     }
-    Answer::No(Refusal::Malformed, at + 1)
+    Err(Refusal::Malformed.at(at + 1))
 }
 
 // Question 8. A command takes a byte or more, so the roll is gone through once.
@@ -51,12 +51,12 @@ pub fn ask_roll(roll: &[u8]) -> Answer
             b'X' => 6,
             b'P' => 6,
             b'E' => return ask_last(length, at),
-            _ => return Answer::No(Refusal::Malformed, at),
+            _ => return Err(Refusal::Malformed.at(at)),
         };
         if length - at < width {
-            return Answer::No(Refusal::Malformed, at);
+            return Err(Refusal::Malformed.at(at));
         }
         at += width;
     }
-    Answer::No(Refusal::Malformed, at)
+    Err(Refusal::Malformed.at(at))
 }

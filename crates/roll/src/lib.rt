@@ -4,4 +4,4 @@
 mod command;
 mod rolling;
 
-pub use rolling::{Rolled, roll};
+pub use rolling::{RollRefused, roll};

@@ -1,6 +1,7 @@
 -- Marks along a contour: how they are put one after the other, and that the stick at a place is as many steps on from the mark before it
 -- as the place is beyond.
 use mathlib.Core.Path.{◌≡◌, refl, ◌∙◌, ap}
+use mathlib.Core.Bool.{true}
 use mathlib.Core.List.{List}
 use Prim.Native.Nat.{ℕ, ◌+◌, ◌*◌, ◌/◌, ◌%◌, ◌<◌}
 use native.Mathlib.Decide.{ℕ_discrete}
@@ -8,13 +9,13 @@ use native.Mathlib.Omega.{arith}
 use lib.ListN.{length, get_or, set, length-set}
 use lib.Seq.{get_or-set_same, get_or-set_other}
 use Rattle.grid.specs.Layer.{Layer}
-use Rattle.grid.specs.Edges.{number, edge_at}
+use Rattle.grid.specs.Edges.{number, edge_at, is_stick}
 use Rattle.grid.specs.declared.edge.Edge.{Edge}
 use Rattle.grid.proofs.Numbers.{edges-small}
 use Rattle.contour.specs.Contours.{walk_of}
 use Rattle.contour.proofs.Orbit.{ahead-one}
 use Rattle.contour.proofs.Sticks.{laws}
-use Rattle.run.specs.Runs.{stick_after, StickOf, HasSticks}
+use Rattle.run.specs.Runs.{stick_after, HasSticks}
 use Rattle.run.specs.Marks.{mark_places, Along}
 use Rattle.run.proofs.Steps.{no_steps, steps_on, steps-from, stick-on, most-sticks}
 
@@ -28,12 +29,12 @@ pub put-none : (L : Layer) (f : Edge) (n : ℕ) (marks : List ℕ) → length ma
 put-none L f n marks sized = record { sized = sized; says = λ j h. absurd (omega arith); here = no_steps L f }
 
 module _ {L : Layer} {f : Edge} {n : ℕ} (contour : HasSticks L f n) {marks : List ℕ} {at : Edge} {k : ℕ} (put : MarksPut L f n marks at k) where
-  pub put-stick : StickOf L at
-  put-stick = record { sound = contour.sound; stick = stick-on L f (k * 64) contour.sound contour.stick put.here }
+  pub put-stick : is_stick L at ≡ true
+  put-stick = stick-on L f (k * 64) contour.sound contour.stick put.here
 
   pub put-number : number L.size at < 2095104
   put-number =
-      omega (arith, (laws L contour.sound).number_less at put-stick.stick, edges-small L.size contour.sound.whole.sized)
+      omega (arith, (laws L contour.sound).number_less at put-stick, edges-small L.size contour.sound.whole.sized)
 
   -- while the contour is not yet all walked there is room for one more
   pub put-room : k * 64 < n → k < mark_places
@@ -60,8 +61,8 @@ module _ {L : Layer} {marks : List ℕ} {e : Edge} {p h : ℕ} (along : Along L 
   pub along-small : p + h < 2095104
   along-small = omega (arith, along.inside, most-sticks (record { sound = along.sound; stick = along.stick; all = refl }))
 
-  pub along-stick : StickOf L e
-  along-stick = record { sound = along.sound; stick = stick-on L along.from p along.sound along.stick along.here }
+  pub along-stick : is_stick L e ≡ true
+  along-stick = stick-on L along.from p along.sound along.stick along.here
 
   -- the mark before a place, and the steps from there
   module _ {near : Edge} (room : (p + h) / 64 < length marks) (is : near ≡ edge_at L.size (get_or marks ((p + h) / 64) 0)) where
@@ -73,9 +74,8 @@ module _ {L : Layer} {marks : List ℕ} {e : Edge} {p h : ℕ} (along : Along L 
         ∙ (laws L along.sound).at_number _
         (ahead-one (walk_of L) (laws L along.sound) ((p + h) / 64 * 64) along.from along.stick)
 
-    pub near-stick : StickOf L near
-    near-stick =
-        record { sound = along.sound; stick = stick-on L along.from ((p + h) / 64 * 64) along.sound along.stick near-mark }
+    pub near-stick : is_stick L near ≡ true
+    near-stick = stick-on L along.from ((p + h) / 64 * 64) along.sound along.stick near-mark
 
     pub from-mark : {r : Edge} → r ≡ stick_after L ((p + h) % 64) near → r ≡ stick_after L h e
     from-mark on =

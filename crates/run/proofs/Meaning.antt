@@ -14,7 +14,7 @@ use Rattle.grid.specs.Layer.{Layer}
 use Rattle.grid.specs.Edges.{is_stick}
 use Rattle.grid.specs.Questions.{Sound}
 use Rattle.grid.specs.declared.edge.Edge.{Edge}
-use Rattle.grid.specs.declared.question.Answer.TheVariants.{Yes}
+use Rattle.grid.specs.Questions.{Yes}
 use Rattle.step.specs.Walk.{next, following}
 use Rattle.contour.specs.Walk.{ahead, occurrences}
 use Rattle.contour.specs.Contours.{walk_of, contour_of, same_edge}

@@ -1,7 +1,7 @@
--- Walks along a contour: steps taken together, and what the loops along a contour and along a run cite. Each has a record for what holds where
--- the loop stands, with the sticks that are left, and laws for one more turn and for the end.
+-- Walks along a contour: steps taken together, how many lead round it, and what the loops along a run cite. Each has a record for what holds
+-- where the loop stands, with the sticks that are left, and laws for one more turn and for the end.
 use mathlib.Core.Path.{◌≡◌, refl, sym, ◌∙◌, ap}
-use mathlib.Core.Bool.{true, false}
+use mathlib.Core.Bool.{true}
 use mathlib.Core.List.{List, [], foldl}
 use Prim.Native.Nat.{ℕ, ◌+◌, ◌-◌, ◌≤◌, ◌<◌}
 use native.Mathlib.Omega.{arith}
@@ -14,10 +14,9 @@ use Rattle.grid.specs.declared.edge.Edge.{Edge}
 use Rattle.grid.proofs.Numbers.{edges-small}
 use Rattle.step.specs.Walk.{next, following}
 use Rattle.step.proofs.Following.{on-next, following-none, following-more, TestsLeft}
-use Rattle.contour.specs.Walk.{ahead, rest}
-use Rattle.contour.specs.Contours.{walk_of, contour_of, same_edge}
+use Rattle.contour.specs.Walk.{ahead}
+use Rattle.contour.specs.Contours.{walk_of}
 use Rattle.contour.proofs.Orbit.{ahead-add, ahead-one, round}
-use Rattle.contour.proofs.Loop.{Due, start, due-one, due-next, shorter, rest_more, rest-last}
 use Rattle.contour.proofs.Sticks.{laws}
 use Rattle.chord.specs.Points.{Position}
 use Rattle.table.specs.Vertices.{offset_at}
@@ -26,7 +25,7 @@ use Rattle.table.specs.Lent.{LentAt}
 use Rattle.table.specs.declared.entry.Entry.TheVariants.{Removed}
 use Rattle.table.proofs.Stores.{store_length}
 use Rattle.drawn.specs.Drawn.{vertex}
-use Rattle.run.specs.Runs.{stick_after, between, chord_passes, passes, StickOf, HasSticks, RunLent}
+use Rattle.run.specs.Runs.{stick_after, between, chord_passes, passes, HasSticks, RunLent}
 
 -- Steps
 
@@ -79,37 +78,6 @@ module _ {L : Layer} {t : List ℕ} {e end : Edge} {n : ℕ} (given : RunLent L 
 
   pub lent-end : LentAt L t end
   lent-end = record { sound = given.sound; exact = given.exact; stick = stick-on L e n given.sound given.stick given.ends }
-
--- Counting the sticks of the contour of f: n are counted, and the walk stands at e
-
-pub record SticksLeft (L : Layer) (f e : Edge) (n : ℕ) : Type 0 where
-  pub due : Due (walk_of L) f e
-  pub in_all : n + length (rest (walk_of L) e f) ≡ length (contour_of L f)
-
-module _ {L : Layer} where
-  pub sticks-start : {f : Edge} → StickOf L f → SticksLeft L f f 0
-  sticks-start {f} given = record { due = start (walk_of L) (laws L given.sound) f given.stick; in_all = omega arith }
-
-  module _ (sound : Sound L) {f e : Edge} {n : ℕ} (here : SticksLeft L f e n) where
-    pub sticks-here : is_stick L e ≡ true
-    sticks-here = due-one (walk_of L) (laws L sound) f e here.due
-
-    pub sticks-most : n ≤ 2095104
-    sticks-most = omega (arith, here.in_all, most-sticks (record { sound = sound; stick = here.due.start_one; all = refl }))
-
-    module _ {e' : Edge} (step : e' ≡ next L e) where
-      pub sticks-less : same_edge e' f ≡ false → length (rest (walk_of L) e' f) < length (rest (walk_of L) e f)
-      sticks-less s = shorter (walk_of L) (laws L sound) f e e' here.due step s
-
-      pub sticks-turn : same_edge e' f ≡ false → SticksLeft L f e' (n + 1)
-      sticks-turn s =
-          record {
-            due = due-next (walk_of L) (laws L sound) f e e' here.due step;
-            in_all = omega (arith, here.in_all, ap length (rest_more (walk_of L) (laws L sound) f e e' here.due step s));
-          }
-
-      pub sticks-last : same_edge e' f ≡ true → n + 1 ≡ length (contour_of L f)
-      sticks-last s = omega (arith, here.in_all, ap length (rest-last (walk_of L) (laws L sound) f e e' here.due step s))
 
 -- The sticks between the ends of a run
 

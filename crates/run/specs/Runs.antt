@@ -34,11 +34,6 @@ passes L t tolerance e n = each (chord_passes L t tolerance (vertex L t e) (vert
 
 -- What the contracts of the code cite besides
 
--- e is a stick of a sound layer
-pub record StickOf (L : Layer) (e : Edge) : Type 0 where
-  pub sound : Sound L
-  pub stick : is_stick L e ≡ true
-
 -- the contour that starts at the stick f of a sound layer has n sticks
 pub record HasSticks (L : Layer) (f : Edge) (n : ℕ) : Type 0 where
   pub sound : Sound L

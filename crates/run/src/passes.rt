@@ -1,57 +1,41 @@
 // Whether a run passes.
 ghost use Rattle.std.specs.Prelude.{◌≡◌};
-ghost use Rattle.grid.specs.Layer.{layer_of};
+ghost use Rattle.grid.specs.Plain.{plain};
 ghost use Rattle.chord.specs.Runs.{Near};
 ghost use Rattle.table.specs.Lent.{LentAt};
 ghost use Rattle.run.specs.Runs.{chord_passes, passes, RunLent};
 
 use chord::{Position, crosses_stick, slides_within};
 use drawn::vertex_at;
-use grid::{Edge, Size};
+use grid::{Edge, Layer};
 use step::next_stick;
 use table::{entry_at, is_pinned, offset_in};
 
 // Whether the chord from p to q crosses the stick u, and the vertex there would slide to it by at most t and is not pinned.
-fn chord_passes(
-    size: Size,
-    bitmap: &[u8],
-    table: &[u16],
-    t: u8,
-    p: Position,
-    q: Position,
-    u: Edge,
-) -> bool
-    requires lent_at { LentAt (layer_of size bitmap.now) table.now u }
+fn chord_passes(layer: Layer, table: &[u16], t: u8, p: Position, q: Position, u: Edge) -> bool
+    requires lent_at { LentAt (plain layer) table.now u }
     requires p_near { Near p }
     requires q_near { Near q }
-    ensures { result ≡ chord_passes (layer_of size bitmap.now) table.now t p q u }
+    ensures { result ≡ chord_passes (plain layer.entry) table.now t p q u }
 {
     if !crosses_stick(p, q, u) {
         return false;
     }
-    let entry = entry_at(size, table, u);
+    let entry = entry_at(layer.size, table, u);
     slides_within(t, p, q, u, offset_in(entry)) && !is_pinned(entry)
 }
 
 // Whether the run of n edges from stick e to stick `end` passes. It stops at the first stick that fails.
-pub fn passes_run(
-    size: Size,
-    bitmap: &[u8],
-    table: &[u16],
-    t: u8,
-    e: Edge,
-    end: Edge,
-    n: usize,
-) -> bool
-    requires { RunLent (layer_of size bitmap.now) table.now e end n }
-    ensures { result ≡ passes (layer_of size bitmap.now) table.now t e n }
+pub fn passes_run(layer: Layer, table: &[u16], t: u8, e: Edge, end: Edge, n: usize) -> bool
+    requires { RunLent (plain layer) table.now e end n }
+    ensures { result ≡ passes (plain layer.entry) table.now t e n }
 {
-    let p = vertex_at(size, table, e);
-    let q = vertex_at(size, table, end);
+    let p = vertex_at(layer.size, table, e);
+    let q = vertex_at(layer.size, table, end);
     let mut at = e;
     for _ in 1..n {
-        at = next_stick(size, bitmap, at);
-        if !chord_passes(size, bitmap, table, t, p, q, at) {
+        at = next_stick(layer, at);
+        if !chord_passes(layer, table, t, p, q, at) {
             return false;
         }
     }

@@ -1,4 +1,5 @@
 -- The call that writes a sheet, by the answers to its questions: refused by 1 to 7, refused by 14, or done.
+use Rattle.std.specs.Prelude.{Err}
 use mathlib.Core.Path.{◌≡◌, sym, ap, ◌∙◌}
 use mathlib.Core.List.{List, [], ◌∷◌, ◌++◌}
 use Prim.Native.Nat.{ℕ, ◌≤◌, ◌<◌}
@@ -6,11 +7,9 @@ use borrow.Author.Tests.{le-leb, lt-leb}
 use lib.ListN.{length}
 use lib.Seq.{sets}
 use Rattle.grid.specs.Layer.{Layer}
-use Rattle.grid.specs.Questions.{first_no, if_all_yes, number_of}
-use Rattle.grid.specs.declared.question.Refusal.{Refusal}
-use Rattle.grid.specs.declared.question.Refusal.TheVariants.{ShortOutput}
-use Rattle.grid.specs.declared.question.Answer.{Answer}
-use Rattle.grid.specs.declared.question.Answer.TheVariants.{Yes, No}
+use Rattle.grid.specs.Questions.{Answer, Yes, No, first_no, if_all_yes, number_of}
+use Rattle.grid.specs.declared.refusal.Refused.{Refused}
+use Rattle.grid.specs.declared.refusal.Refusal.TheVariants.{ShortOutput}
 use Rattle.grid.proofs.Answers.{append-no, append-yes, first-only}
 use Rattle.held.specs.Questions.{held_questions}
 use Rattle.sheet.specs.Written.{sheet_of, room_answer, Outcome, write_of}
@@ -27,9 +26,9 @@ module _ (L : Layer) (t out : List ℕ) where
   unfolding write_of
   written-by answer e = ap by_answer e
 
-  pub written-no : (q : Refusal) (place : ℕ) → first_no (held_questions L t) ≡ No q place
-      → write_of L t out ≡ record { refusal = number_of q; place = place; written = 0; output = out }
-  written-no q place e = written-by (No q place) (sym (append-no (held_questions L t) (room_answer L t out ∷ []) e))
+  pub written-no : {e : Refused} → first_no (held_questions L t) ≡ Err e
+      → write_of L t out ≡ record { refusal = number_of e.question; place = e.place; written = 0; output = out }
+  written-no {e} refused = written-by (Err e) (sym (append-no (held_questions L t) (room_answer L t out ∷ []) refused))
 
   module _ (yes : first_no (held_questions L t) ≡ Yes) where
     -- what is left is question 14

@@ -1,21 +1,14 @@
 -- What the loops that write contours rest on: one along a contour, vertex by vertex, and one over all contours.
 use mathlib.Core.Path.{◌≡◌}
-use mathlib.Core.Bool.{true, false}
 use mathlib.Core.List.{List, [], ◌∷◌, ◌++◌}
-use Prim.Native.Nat.{ℕ, ◌+◌, ◌≤◌, ◌<◌}
+use Prim.Native.Nat.{ℕ, ◌+◌, ◌≤◌}
 use lib.ListN.{length}
 use Rattle.grid.specs.Layer.{Layer}
 use Rattle.grid.specs.Questions.{Sound}
 use Rattle.grid.specs.declared.edge.Edge.{Edge}
-use Rattle.step.specs.Walk.{next}
-use Rattle.contour.specs.Walk.{rest, firsts_from}
-use Rattle.contour.specs.Contours.{walk_of, same_edge}
-use Rattle.contour.specs.Sets.{FirstSet}
-use Rattle.contour.specs.Cursors.{left, Placed, Opened, Moved}
-use Rattle.contour.specs.declared.cursor.Cursor.{Cursor}
-use Rattle.contour.proofs.Loop.{Due, start, due-one, due-next, rest_more, rest-last, shorter}
-use Rattle.contour.proofs.Sticks.{laws}
-use Rattle.contour.proofs.Cursors.{here-left, none_left}
+use Rattle.contour.specs.Contours.{contour_of, first_sticks}
+use Rattle.contour.proofs.Laps.{OnLap, on_lap, due-stick, lap-turn}
+use Rattle.contour.proofs.Firsts.{FirstsLeft, firsts-start, firsts-turn}
 use Rattle.table.specs.Vertices.{entry_at}
 use Rattle.table.specs.Lent.{LentAt}
 use Rattle.table.specs.declared.entry.Entry.{Entry}
@@ -24,82 +17,71 @@ use Rattle.sheet.specs.Written.{vertices_of, contour_vertices, contour_bytes, co
 use Rattle.sheet.specs.Stored.{Stored}
 use Rattle.sheet.proofs.Stored.{PartStored, part-start, part_room, part-turn, part_end}
 
--- less is left of a contour after a step
-pub less-left : {L : Layer} (sound : Sound L) {f x x' : Edge} → Due (walk_of L) f x → x' ≡ next L x → same_edge x' f ≡ false
-    → length (rest (walk_of L) x' f) < length (rest (walk_of L) x f)
-less-left {L} sound {f} {x} {x'} due step differ = shorter (walk_of L) (laws L sound) f x x' due step differ
-
--- The vertices of the contour of f are being stored in s₀ from i₀ on. The walk stands at x, whose vertex is next, at i; what was stored so
--- far gave s.
-pub record AtVertex (L : Layer) (t : List ℕ) (f : Edge) (s₀ : List ℕ) (i₀ : ℕ) (s : List ℕ) (i : ℕ) (x : Edge) : Type 0 where
-  pub due : Due (walk_of L) f x
-  pub stored : PartStored s₀ i₀ (contour_vertices L t f) s i (vertices_of L t (rest (walk_of L) x f))
+-- The vertices of the contour of f are being stored in s₀ from i₀ on. Those of `left` are still to come, the first of them at i; what was
+-- stored so far gave s.
+pub record AtVertex (L : Layer) (t : List ℕ) (f : Edge) (s₀ : List ℕ) (i₀ : ℕ) (s : List ℕ) (i : ℕ) (left : List Edge) : Type 0 where
+  pub lap : OnLap L f left
+  pub stored : PartStored s₀ i₀ (contour_vertices L t f) s i (vertices_of L t left)
 
 module _ {L : Layer} {t : List ℕ} {f : Edge} {s₀ : List ℕ} {i₀ : ℕ} where
-  pub vertices-start : LentAt L t f → AtVertex L t f s₀ i₀ s₀ i₀ f
-  vertices-start given = record { due = start (walk_of L) (laws L given.sound) f given.stick; stored = part-start }
+  pub vertices-start : LentAt L t f → {left : List Edge} → left ≡ contour_of L f → AtVertex L t f s₀ i₀ s₀ i₀ left
+  vertices-start given e = record { lap = on_lap given.sound given.stick e; stored = rw e part-start }
 
-  -- what is given of the stick that the walk is at
-  pub vertex-lent : LentAt L t f → {s : List ℕ} {i : ℕ} {x : Edge} → AtVertex L t f s₀ i₀ s i x → LentAt L t x
-  vertex-lent given {x = x} here =
-      record { sound = given.sound; exact = given.exact; stick = due-one (walk_of L) (laws L given.sound) f x here.due }
+  module _ {s : List ℕ} {i : ℕ} {left : List Edge} (here : AtVertex L t f s₀ i₀ s i left) where
+    module _ {x : Edge} {later : List Edge} (next : left ≡ x ∷ later) where
+      -- what is given of the stick that comes next
+      pub vertex-lent : LentAt L t f → LentAt L t x
+      vertex-lent given = record { sound = given.sound; exact = given.exact; stick = due-stick given.sound here.lap next }
 
-  module _ (sound : Sound L) {s : List ℕ} {i : ℕ} {x : Edge} (here : AtVertex L t f s₀ i₀ s i x) where
-    module _ {entry : Entry} (told : entry ≡ entry_at L t x) where
-      -- there is room for its command
-      pub vertex-room : i₀ + length (contour_vertices L t f) ≤ length s₀ → i + length (vertex_command entry) ≤ length s
-      unfolding vertices_of rest
-      vertex-room h = rw told (part_room (vertex_command (entry_at L t x)) _ here.stored h)
+      next-vertex : PartStored s₀ i₀ (contour_vertices L t f) s i (vertex_command (entry_at L t x) ++ vertices_of L t later)
+      unfolding vertices_of
+      next-vertex = rw next at here.stored
 
-      -- which is stored; and the walk goes on, or is back
-      module _ {s' : List ℕ} {i' : ℕ} {x' : Edge} (put : Stored s i (vertex_command entry) s' i') (step : x' ≡ next L x) where
-        turned : (later : List Edge) → rest (walk_of L) x f ≡ x ∷ later → PartStored s₀ i₀ (contour_vertices L t f) s' i' (vertices_of L t later)
-        unfolding vertices_of
-        turned later e =
-            let there : PartStored s₀ i₀ (contour_vertices L t f) s i (vertices_of L t (x ∷ later)) = rw e at here.stored in
-            part-turn (vertex_command (entry_at L t x)) (vertices_of L t later) there (rw told at put)
+      module _ {entry : Entry} (told : entry ≡ entry_at L t x) where
+        -- there is room for its command,
+        pub vertex-room : i₀ + length (contour_vertices L t f) ≤ length s₀ → i + length (vertex_command entry) ≤ length s
+        vertex-room h = rw told (part_room (vertex_command (entry_at L t x)) _ next-vertex h)
 
-        pub vertices-turn : same_edge x' f ≡ false → AtVertex L t f s₀ i₀ s' i' x'
-        vertices-turn e =
+        -- which is stored
+        pub vertices-turn : Sound L → {s' : List ℕ} {i' : ℕ} → Stored s i (vertex_command entry) s' i' → AtVertex L t f s₀ i₀ s' i' later
+        vertices-turn sound put =
             record {
-              due = due-next (walk_of L) (laws L sound) f x x' here.due step;
-              stored = turned (rest (walk_of L) x' f) (rest_more (walk_of L) (laws L sound) f x x' here.due step e);
+              lap = lap-turn sound here.lap next;
+              stored = part-turn (vertex_command (entry_at L t x)) (vertices_of L t later) next-vertex (rw told at put);
             }
 
-        pub vertices-end : same_edge x' f ≡ true → Stored s₀ i₀ (contour_vertices L t f) s' i'
-        unfolding vertices_of
-        vertices-end e = part_end (turned [] (rest-last (walk_of L) (laws L sound) f x x' here.due step e))
+    pub vertices-end : left ≡ [] → Stored s₀ i₀ (contour_vertices L t f) s i
+    unfolding vertices_of
+    vertices-end over = part_end (rw over at here.stored)
 
--- The contours are being stored in s₀ from i₀ on. The contour of the cursor is next, at i; what was stored so far gave s.
-pub record AtContour (L : Layer) (t s₀ : List ℕ) (i₀ : ℕ) (s : List ℕ) (i : ℕ) (c : Cursor) : Type 0 where
-  pub placed : Placed L c
-  pub stored : PartStored s₀ i₀ (all_contours L t) s i (contours_bytes L t (left L c))
+-- The contours are being stored in s₀ from i₀ on. Those of the first sticks `left` are still to come, the first of them at i; what was stored
+-- so far gave s.
+pub record AtContour (L : Layer) (t s₀ : List ℕ) (i₀ : ℕ) (s : List ℕ) (i : ℕ) (left : List Edge) : Type 0 where
+  pub firsts : FirstsLeft L left
+  pub stored : PartStored s₀ i₀ (all_contours L t) s i (contours_bytes L t left)
 
 module _ {L : Layer} {t s₀ : List ℕ} {i₀ : ℕ} where
-  pub contours-start : {c : Cursor} → Opened L c → AtContour L t s₀ i₀ s₀ i₀ c
-  contours-start o = record { placed = o.placed; stored = rw o.left part-start }
+  pub contours-start : {left : List Edge} → left ≡ first_sticks L → AtContour L t s₀ i₀ s₀ i₀ left
+  contours-start e = record { firsts = firsts-start L e; stored = rw e part-start }
 
-  module _ {s : List ℕ} {i : ℕ} {c : Cursor} (here : AtContour L t s₀ i₀ s i c) where
-    next-part : (later : List Edge) → left L c ≡ c.stick ∷ later
-        → PartStored s₀ i₀ (all_contours L t) s i (contour_bytes L t c.stick ++ contours_bytes L t later)
-    unfolding contours_bytes
-    next-part later e = rw e at here.stored
-
-    pub contours-turn : {s' : List ℕ} {i' : ℕ} {c' : Cursor} → Stored s i (contour_bytes L t c.stick) s' i' → Moved L c c'
-        → AtContour L t s₀ i₀ s' i' c'
-    contours-turn {c' = c'} put m =
-        record {
-          placed = m.placed;
-          stored = part-turn (contour_bytes L t c.stick) (contours_bytes L t (left L c')) (next-part (left L c') m.left) put;
-        }
-
-    module _ {m : List ℕ} (set : FirstSet L m) where
-      -- there is room for its contour
-      pub contour-room : c.more ≡ true → i₀ + length (all_contours L t) ≤ length s₀ → i + length (contour_bytes L t c.stick) ≤ length s
-      contour-room more h =
-          let later = firsts_from (walk_of L) (c.number + 1) in
-          part_room (contour_bytes L t c.stick) (contours_bytes L t later) (next-part later (here-left set here.placed more)) h
-
-      pub contours-end : c.more ≡ false → Stored s₀ i₀ (all_contours L t) s i
+  module _ {s : List ℕ} {i : ℕ} {left : List Edge} (here : AtContour L t s₀ i₀ s i left) where
+    module _ {f : Edge} {later : List Edge} (next : left ≡ f ∷ later) where
+      next-contour : PartStored s₀ i₀ (all_contours L t) s i (contour_bytes L t f ++ contours_bytes L t later)
       unfolding contours_bytes
-      contours-end over = part_end (rw (none_left set here.placed over) at here.stored)
+      next-contour = rw next at here.stored
+
+      -- there is room for the contour that comes next,
+      pub contour-room : i₀ + length (all_contours L t) ≤ length s₀ → i + length (contour_bytes L t f) ≤ length s
+      contour-room h = part_room (contour_bytes L t f) (contours_bytes L t later) next-contour h
+
+      -- which is stored
+      pub contours-turn : {s' : List ℕ} {i' : ℕ} → Stored s i (contour_bytes L t f) s' i' → AtContour L t s₀ i₀ s' i' later
+      contours-turn put =
+          record {
+            firsts = firsts-turn here.firsts next;
+            stored = part-turn (contour_bytes L t f) (contours_bytes L t later) next-contour put;
+          }
+
+    pub contours-end : left ≡ [] → Stored s₀ i₀ (all_contours L t) s i
+    unfolding contours_bytes
+    contours-end over = part_end (rw over at here.stored)

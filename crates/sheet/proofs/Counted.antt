@@ -7,9 +7,8 @@ use native.Mathlib.Omega.{arith}
 use lib.ListN.{length, length-append}
 use Rattle.grid.specs.Layer.{Layer}
 use Rattle.mask.specs.Counts.{stick_count}
-use Rattle.grid.specs.Questions.{Sound, first_no}
+use Rattle.grid.specs.Questions.{Sound, Yes, first_no}
 use Rattle.grid.specs.declared.edge.Edge.{Edge}
-use Rattle.grid.specs.declared.question.Answer.TheVariants.{Yes}
 use Rattle.contour.specs.Walk.{contour}
 use Rattle.contour.specs.Contours.{walk_of, contour_of, first_sticks, contour_count}
 use Rattle.contour.proofs.Theorems.{total-length, AllSticks, head-stick, tail-sticks, contour-sticks, firsts-sticks}

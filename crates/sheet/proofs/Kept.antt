@@ -1,5 +1,6 @@
 -- What writing a sheet leaves: the output keeps its length, it begins with the sheet where the call is done, and what lies past the answer's
 -- end is as before. "A refusal leaves all buffers as found"; "Outputs past the answer's end stay untouched."
+use Rattle.std.specs.Prelude.{Err}
 use mathlib.Core.Path.{◌≡◌, refl, ap, ◌∙◌}
 use mathlib.Core.List.{List, [], ◌∷◌, ◌++◌}
 use Prim.Native.Nat.{ℕ, ◌+◌, ◌≤◌}
@@ -9,10 +10,8 @@ use lib.ListN.{length, get_or, take, drop}
 use lib.Seq.{sets, length-sets, sets-eq, take_at}
 use Rattle.arith.proofs.Stores.{sets-past}
 use Rattle.grid.specs.Layer.{Layer}
-use Rattle.grid.specs.Questions.{first_no}
-use Rattle.grid.specs.declared.question.Refusal.TheVariants.{ShortOutput}
-use Rattle.grid.specs.declared.question.Answer.{Answer}
-use Rattle.grid.specs.declared.question.Answer.TheVariants.{Yes, No}
+use Rattle.grid.specs.Questions.{Answer, Yes, first_no}
+use Rattle.grid.specs.declared.refusal.Refusal.TheVariants.{ShortOutput}
 use Rattle.grid.proofs.Answers.{append-all, first_no-yes, asked}
 use Rattle.held.specs.Questions.{held_questions}
 use Rattle.sheet.specs.Written.{sheet_of, room_answer, Outcome, write_of}
@@ -33,7 +32,7 @@ module _ (L : Layer) (t out : List ℕ) where
     where
       go : (answer : Answer) → length (by_answer L t out answer).output ≡ length out
       go Yes = length-sets out 0 (sheet_of L t)
-      go (No q place) = refl
+      go (Err e) = refl
 
   pub write-past : (k d : ℕ) → (write_of L t out).written ≤ k → get_or (write_of L t out).output k d ≡ get_or out k d
   write-past k d h =
@@ -43,7 +42,7 @@ module _ (L : Layer) (t out : List ℕ) where
     where
       go : (answer : Answer) → (by_answer L t out answer).written ≤ k → get_or (by_answer L t out answer).output k d ≡ get_or out k d
       go Yes l = sets-past (sheet_of L t) out 0 k d (omega arith)
-      go (No q place) l = refl
+      go (Err e) l = refl
 
   -- where every question is answered yes
   pub write-begins : first_no (held_questions L t ++ (room_answer L t out ∷ [])) ≡ Yes

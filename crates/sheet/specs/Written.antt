@@ -1,17 +1,15 @@
 -- A sheet as written: size, contours in order, end; and the call that writes it.
 use mathlib.Core.List.{List, [], ◌∷◌, ◌++◌, map, flatten}
-use Rattle.std.specs.Prelude.{ℕ, leb, length}
+use Rattle.std.specs.Prelude.{Result, Ok, Err, ℕ, leb, length}
 use Rattle.std.proofs.lemmas.List.Edits.{sets}
 use Rattle.grid.specs.Layer.{Layer}
-use Rattle.grid.specs.Questions.{ask, first_no, if_all_yes, number_of}
+use Rattle.grid.specs.Questions.{Answer, ask, first_no, if_all_yes, number_of}
 use Rattle.grid.specs.declared.edge.Edge.{Edge}
-use Rattle.grid.specs.declared.question.Refusal.TheVariants.{ShortOutput}
-use Rattle.grid.specs.declared.question.Answer.{Answer}
+use Rattle.grid.specs.declared.refusal.Refusal.TheVariants.{ShortOutput}
+use Rattle.grid.specs.declared.refusal.Refused.{Refused}
 use Rattle.contour.specs.Contours.{contour_of, first_sticks}
 use Rattle.table.specs.Vertices.{entry_at}
 use Rattle.held.specs.Questions.{held_questions}
-use Rattle.sheet.specs.declared.write.Written.{Written}
-use Rattle.sheet.specs.declared.write.Written.TheVariants.{Done, Refused}
 use Rattle.sheet.specs.Commands.{size_command, contour_command, vertex_command, end_command}
 
 -- "for each contour C (hex 43) and its first stick; for each vertex K (hex 4B, kept) or R (hex 52, removed) and its offset byte", or "N (hex 4E)
@@ -60,6 +58,6 @@ write_of L t out =
     (record { refusal = 0; place = 0; written = length (sheet_of L t); output = sets out 0 (sheet_of L t) })
 
 -- the outcome that an answer and the output at exit stand for: "All other figures of a refused call are 0."
-abbrev pub outcome : Written → List ℕ → Outcome
-outcome (Done written) out = record { refusal = 0; place = 0; written = written; output = out }
-outcome (Refused q place) out = record { refusal = number_of q; place = place; written = 0; output = out }
+abbrev pub outcome : Result ℕ Refused → List ℕ → Outcome
+outcome (Ok written) out = record { refusal = 0; place = 0; written = written; output = out }
+outcome (Err e) out = record { refusal = number_of e.question; place = e.place; written = 0; output = out }

@@ -7,4 +7,4 @@ mod walk;
 mod write;
 
 pub use command::{CONTOUR_BYTES, SIZE_BYTES, VERTEX_BYTES, contour_command, size_command};
-pub use write::{Written, write_sheet};
+pub use write::write_sheet;

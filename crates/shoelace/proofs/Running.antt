@@ -10,6 +10,8 @@ use native.Mathlib.Omega.{arith}
 use lib.IntN.{ℤ, pos, nat_abs, ◌+ℤ◌}
 use lib.ListN.{length, set, length-set}
 use lib.Seq.{sets}
+use Rattle.bitset.specs.Bits.{OneTaken}
+use Rattle.bitset.specs.declared.ones.Ones.{Ones}
 use Rattle.arith.specs.Ranges.{least}
 use Rattle.arith.proofs.Booleans.{both-sides}
 use Rattle.arith.proofs.Bounds.{nat_abs-add}
@@ -246,6 +248,24 @@ module _ {L : Layer} {t : List ℕ} {v : Bool} {r at : ℕ} where
         let end : 8 * at + 8 ≡ 8 * (at + 1) = omega arith in
         subst (λ (d : ℕ). Onward L t p s (spot L.size v r d) u) end
         (then run.onward (skip in_row (8 * at + 8) run.within (left-done L v at r c x run.left none)))
+
+-- the same as the bits of the byte come, one after the other
+module _ {L : Layer} {t : List ℕ} {v : Bool} {r at p : ℕ} {it : Ones} {s u : State}
+    (run : ByteRun L t v r at p s it.left (8 * at + it.at) u) {n z : ℕ} {it' : Ones} (taken : OneTaken it n it' z) where
+  place : 8 * at + it.at + z ≡ 8 * at + n
+  place = omega (arith, taken.here)
+
+  abbrev pub stick_at : Edge
+  stick_at = record { vertical = v; column = 8 * at + n; row = r }
+
+  pub one-stick : AtStick L t stick_at u
+  one-stick = rw place at (byte-stick run taken.lowest taken.below)
+
+  pub one-turn : {u' : State} → Onward L t (number L.size stick_at) u (number L.size stick_at + 1) u'
+      → ByteRun L t v r at p s it'.left (8 * at + it'.at) u'
+  one-turn past =
+      let next : 8 * at + it'.at ≡ 8 * at + it.at + (z + 1) = omega (arith, taken.next) in
+      rw (taken.left, next) (byte-turn run taken.lowest taken.below (rw (sym place) at past))
 
 -- ---- all sticks
 

@@ -8,7 +8,7 @@ ghost use Rattle.shoelace.specs.Sums.{drawn_count};
 ghost use Rattle.shoelace.specs.Running.{state, Below, Onward, spot, InRow, AtStick, AllSummed};
 
 use super::adds::edge_adds;
-use bitset::lowest_bit;
+use bitset::ones_of;
 use grid::{Edge, Layer, edge_rows, stride_of};
 use mask::stick_byte;
 use table::{entry_at, is_kept};
@@ -46,18 +46,13 @@ fn sums_in_byte(
     requires in_row { InRow (plain layer) table.now vertical row (8 * at) (state sums.old running.old) }
     ensures { Onward (plain layer.entry) table.now (spot layer.entry.size vertical row (8 * at)) (state sums.old running.old) (spot layer.entry.size vertical row (8 * (at + 1))) (state sums.new running.new) }
 {
-    let mut left = u64::from(stick_byte(layer, vertical, at, row));
-    let mut column = 8 * at;
-    while left != 0 {
-        let zeros = lowest_bit(left);
+    for b in ones_of(u64::from(stick_byte(layer, vertical, at, row))) {
         let e = Edge {
             vertical,
-            column: column + zeros,
+            column: 8 * at + b,
             row,
         };
         put_sum(layer, table, e, sums, running);
-        left = (left >> zeros) / 2;
-        column += zeros + 1;
     }
 }
 

@@ -13,7 +13,7 @@ use Rattle.grid.specs.Layer.{Layer}
 use Rattle.grid.specs.Edges.{is_stick, edge_count}
 use Rattle.grid.specs.Questions.{Sound}
 use Rattle.grid.specs.declared.edge.Edge.{Edge}
-use Rattle.grid.specs.declared.question.Answer.TheVariants.{Yes}
+use Rattle.grid.specs.Questions.{Yes}
 use Rattle.step.specs.Walk.{next, following}
 use Rattle.step.proofs.Walks.{next-stick}
 use Rattle.contour.specs.Walk.{ahead}

@@ -1,5 +1,6 @@
 -- Simplify keeps a layer held: on a layer and a table that pass questions 1 to 7 and 15, the table that it gives passes 5, 6 and 7; and
 -- whatever a call is answered, an accepted table is accepted after it.
+use Rattle.std.specs.Prelude.{Err}
 use mathlib.Core.Path.{◌≡◌, refl, sym, subst, ◌∙◌, ap}
 use mathlib.Core.Logic.{inl, inr}
 use mathlib.Core.Bool.{Bool, true, false}
@@ -15,8 +16,7 @@ use Rattle.grid.specs.Layer.{Layer}
 use Rattle.grid.specs.Edges.{is_stick, edge_count}
 use Rattle.grid.specs.Questions.{first_no, Sound}
 use Rattle.grid.specs.declared.edge.Edge.{Edge}
-use Rattle.grid.specs.declared.question.Answer.{Answer}
-use Rattle.grid.specs.declared.question.Answer.TheVariants.{Yes, No}
+use Rattle.grid.specs.Questions.{Answer, Yes}
 use Rattle.step.specs.Walk.{next, prev}
 use Rattle.contour.specs.Walk.{ahead, contour, occurrences, first, OnContour}
 use Rattle.contour.specs.Contours.{walk_of, contour_of, first_sticks}
@@ -248,4 +248,4 @@ simplify-keeps L tolerance t accepted = go (first_no (kept_questions L t)) refl
     go Yes e =
         subst (λ (r : Outcome). Accepted L r.table) (sym (outcome-is L t tolerance _ e))
         (simplify-accepted accepted.sound tolerance t (yes-to-all L t e).1)
-    go (No q place) e = subst (λ (r : Outcome). Accepted L r.table) (sym (outcome-is L t tolerance _ e)) accepted
+    go (Err _) e = subst (λ (r : Outcome). Accepted L r.table) (sym (outcome-is L t tolerance _ e)) accepted

@@ -1,27 +1,24 @@
 -- Contours simplified one after the other: that counting may start from 0, and how many runs are tried and vertices removed. Over a layer the
 -- runs tried are twice the sticks less twice the contours, and two fewer for each vertex that is removed.
 use mathlib.Core.Path.{◌≡◌, refl, sym, ◌∙◌, ap}
-use mathlib.Core.Bool.{true, false}
+use mathlib.Core.Bool.{true}
 use mathlib.Core.List.{List, [], ◌∷◌, foldl, map, flatten}
 use Prim.Native.Nat.{ℕ, ◌+◌, ◌-◌, ◌*◌, ◌≤◌}
 use native.Mathlib.Omega.{arith}
 use lib.ListN.{length, length-append, length-map}
 use Rattle.arith.proofs.Ranges.{count-le}
 use Rattle.grid.specs.Layer.{Layer}
-use Rattle.grid.specs.Edges.{edge_count, stick_at}
+use Rattle.grid.specs.Edges.{edge_count, stick_at, is_stick}
 use Rattle.grid.specs.Questions.{Sound}
 use Rattle.grid.specs.declared.edge.Edge.{Edge}
 use Rattle.grid.proofs.Numbers.{edges-small}
 use Rattle.mask.specs.Counts.{stick_count}
-use Rattle.contour.specs.Walk.{contour, firsts_from}
+use Rattle.contour.specs.Walk.{contour}
 use Rattle.contour.specs.Contours.{walk_of, contour_of, first_sticks, contour_count}
-use Rattle.contour.specs.Sets.{FirstSet}
-use Rattle.contour.specs.Cursors.{left, Placed, Opened, Moved}
-use Rattle.contour.specs.declared.cursor.Cursor.{Cursor}
-use Rattle.contour.proofs.Cursors.{here-left, none_left, fold-turn, fold_end}
+use Rattle.contour.proofs.Firsts.{FirstsLeft, firsts-start, firsts-turn, fold-turn, fold_end}
 use Rattle.contour.proofs.Theorems.{total-length, AllSticks, head-stick, tail-sticks, firsts-sticks}
 use Rattle.drawn.proofs.FourKept.{four-sticks}
-use Rattle.run.specs.Runs.{stick_after, StickOf}
+use Rattle.run.specs.Runs.{stick_after}
 use Rattle.simplify.specs.Runs.{Progress, half, try_run, simplify_contour, simplify}
 use Rattle.simplify.specs.Parts.{begun}
 use Rattle.simplify.proofs.Trying.{on_top, split-of, try-two, try-counts, try-length, contour-runs}
@@ -48,11 +45,11 @@ module _ (L : Layer) (tolerance : ℕ) where
       (try-length L tolerance n (try_run L tolerance n s f (half n)) (stick_after L (half n) f) (n - half n) ∙ try-length L tolerance n s f (half n))
 
   -- a contour of n sticks: 2·n - 2 tries, less two for each vertex that is removed
-  pub contour-counts : {f : Edge} → StickOf L f → (s : Progress) → let r : Progress = simplify_contour L tolerance s f in
+  pub contour-counts : Sound L → (f : Edge) → is_stick L f ≡ true → (s : Progress) → let r : Progress = simplify_contour L tolerance s f in
       r.tried + 2 * r.removed + 2 ≡ s.tried + 2 * s.removed + 2 * length (contour_of L f)
-  contour-counts {f} of s =
+  contour-counts sound f stick s =
       let n : ℕ = length (contour_of L f) in
-      let p = split-of n (omega (arith, four-sticks L of.sound f of.stick)) in
+      let p = split-of n (omega (arith, four-sticks L sound f stick)) in
       let one = try-counts L tolerance n s f (half n) p.first_some (omega (arith, p)) in
       let two = try-counts L tolerance n (try_run L tolerance n s f (half n)) (stick_after L (half n) f) (n - half n) p.second_some (omega (arith, p)) in
       rw (contour-runs L tolerance s f) (omega (arith, one, two, p))
@@ -63,7 +60,7 @@ module _ (L : Layer) (tolerance : ℕ) where
   unfolding flatten
   contours-counts sound [] sticks s = omega arith
   contours-counts sound (f ∷ l) sticks s =
-      let here = contour-counts (record { sound = sound; stick = head-stick sound f l sticks }) s in
+      let here = contour-counts sound f (head-stick sound f l sticks) s in
       let sum = length-append (contour_of L f) (flatten (map (contour (walk_of L)) l)) in
       let later = contours-counts sound l (tail-sticks sound f l sticks) (simplify_contour L tolerance s f) in
       omega (arith, here, later, sum)
@@ -98,43 +95,42 @@ module _ (L : Layer) (tolerance : ℕ) where
 -- What the loop over the contours cites: simplifying those that are left, on top of what is done, simplifies the layer. r is what the code finds of
 -- one contour, counted from 0.
 
-pub record ContoursLeft (L : Layer) (tolerance : ℕ) (t : List ℕ) (s : Progress) (c : Cursor) : Type 0 where
-  pub placed : Placed L c
+pub record ContoursLeft (L : Layer) (tolerance : ℕ) (t : List ℕ) (s : Progress) (left : List Edge) : Type 0 where
+  pub firsts : FirstsLeft L left
   pub same_length : length s.table ≡ length t
-  pub gives : foldl (simplify_contour L tolerance) s (left L c) ≡ simplify L tolerance t
+  pub gives : foldl (simplify_contour L tolerance) s left ≡ simplify L tolerance t
 
-pub turns-start : {L : Layer} {c : Cursor} (tolerance : ℕ) (t : List ℕ) → Opened L c → ContoursLeft L tolerance t (begun t) c
-turns-start {L} tolerance t o =
+pub turns-start : {L : Layer} {left : List Edge} (tolerance : ℕ) (t : List ℕ) → left ≡ first_sticks L → ContoursLeft L tolerance t (begun t) left
+turns-start {L} tolerance t e =
     record {
-      placed = o.placed;
+      firsts = firsts-start L e;
       same_length = refl;
-      gives = ap (foldl (simplify_contour L tolerance) (begun t)) o.left ∙ sym (simplify-is L tolerance t);
+      gives = ap (foldl (simplify_contour L tolerance) (begun t)) e ∙ sym (simplify-is L tolerance t);
     }
 
-module _ {L : Layer} {tolerance : ℕ} {t : List ℕ} {s : Progress} {c : Cursor} (now : ContoursLeft L tolerance t s c) where
-  module _ {r : Progress} (found : r ≡ simplify_contour L tolerance (begun s.table) c.stick) where
-    turned : (l : List Edge) → left L c ≡ c.stick ∷ l → foldl (simplify_contour L tolerance) (on_top s r) l ≡ simplify L tolerance t
-    turned l e =
-        ap (λ (x : Progress). foldl (simplify_contour L tolerance) x l) (ap (on_top s) found ∙ sym (contour-from L tolerance s c.stick))
-        ∙ fold-turn (simplify_contour L tolerance) s (simplify L tolerance t) e now.gives
+module _ {L : Layer} {tolerance : ℕ} {t : List ℕ} {s : Progress} {left : List Edge} (now : ContoursLeft L tolerance t s left) where
+  module _ {f : Edge} {left' : List Edge} (next : left ≡ f ∷ left') {r : Progress} (found : r ≡ simplify_contour L tolerance (begun s.table) f) where
+    turned : foldl (simplify_contour L tolerance) (on_top s r) left' ≡ simplify L tolerance t
+    turned =
+        ap (λ (x : Progress). foldl (simplify_contour L tolerance) x left') (ap (on_top s) found ∙ sym (contour-from L tolerance s f))
+        ∙ fold-turn (simplify_contour L tolerance) s (simplify L tolerance t) next now.gives
 
-    pub turns : {c' : Cursor} → Moved L c c' → ContoursLeft L tolerance t (on_top s r) c'
-    turns {c'} moved =
+    pub turns : ContoursLeft L tolerance t (on_top s r) left'
+    turns =
         record {
-          placed = moved.placed;
+          firsts = firsts-turn now.firsts next;
           same_length = ap (λ (x : Progress). length x.table) found
-              ∙ contour-length L tolerance (begun s.table) c.stick
+              ∙ contour-length L tolerance (begun s.table) f
               ∙ now.same_length;
-          gives = turned (left L c') moved.left;
+          gives = turned;
         }
 
     -- so the sums fit
-    pub turned-most : {set : List ℕ} → FirstSet L set → c.more ≡ true → (s.removed + r.removed ≤ 2095104) × (s.tried + r.tried ≤ 4190208)
-    turned-most set more =
-        let later = firsts_from (walk_of L) (c.number + 1) in
-        let w = rw (turned later (here-left set now.placed more)) at (contours-more L tolerance later (on_top s r)) in
-        let small = simplify-small L tolerance set.sound t in
-        (omega (arith, w, small), omega (arith, w, small))
+    pub turned-most : Sound L → (s.removed + r.removed ≤ 2095104) × (s.tried + r.tried ≤ 4190208)
+    turned-most sound =
+        let more = rw turned at (contours-more L tolerance left' (on_top s r)) in
+        let small = simplify-small L tolerance sound t in
+        (omega (arith, more, small), omega (arith, more, small))
 
-  pub turns-end : {set : List ℕ} → FirstSet L set → c.more ≡ false → s ≡ simplify L tolerance t
-  turns-end set over = fold_end (simplify_contour L tolerance) s (simplify L tolerance t) (none_left set now.placed over) now.gives
+  pub turns-end : left ≡ [] → s ≡ simplify L tolerance t
+  turns-end over = fold_end (simplify_contour L tolerance) s (simplify L tolerance t) over now.gives

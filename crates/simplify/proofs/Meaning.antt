@@ -11,7 +11,7 @@ use Rattle.arith.proofs.Booleans.{both-sides}
 use Rattle.grid.specs.Layer.{Layer}
 use Rattle.grid.specs.Questions.{first_no, Sound}
 use Rattle.grid.specs.declared.edge.Edge.{Edge}
-use Rattle.grid.specs.declared.question.Answer.TheVariants.{Yes}
+use Rattle.grid.specs.Questions.{Yes}
 use Rattle.contour.specs.Contours.{contour_of, first_sticks}
 use Rattle.held.specs.Questions.{kept_questions}
 use Rattle.run.specs.Runs.{stick_after, passes}

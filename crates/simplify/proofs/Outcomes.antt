@@ -3,16 +3,15 @@ use mathlib.Core.Path.{◌≡◌, ap}
 use mathlib.Core.List.{List}
 use Prim.Native.Nat.{ℕ}
 use Rattle.grid.specs.Layer.{Layer}
-use Rattle.grid.specs.Questions.{first_no, if_all_yes, number_of}
-use Rattle.grid.specs.declared.question.Answer.{Answer}
-use Rattle.grid.specs.declared.question.Answer.TheVariants.{Yes}
+use Rattle.std.specs.Prelude.{Result, Ok, Err}
+use Rattle.grid.specs.Questions.{Answer, Yes, first_no, if_all_yes, number_of}
+use Rattle.grid.specs.declared.refusal.Refused.{Refused}
 use Rattle.table.proofs.AllKept.{AllKept, all-kept-of}
 use Rattle.held.specs.Questions.{kept_questions, Accepted}
 use Rattle.held.proofs.Asking.{kept-of-yes}
 use Rattle.simplify.specs.Runs.{simplify}
 use Rattle.simplify.specs.Call.{Outcome, finished, simplify_of, outcome}
-use Rattle.simplify.specs.declared.call.Simplified.{Simplified}
-use Rattle.simplify.specs.declared.call.Simplified.TheVariants.{Done, Refused}
+use Rattle.simplify.specs.declared.tries.RunCounts.{RunCounts}
 
 module _ (L : Layer) (t : List ℕ) where
   pub outcome-is : (tolerance : ℕ) (answer : Answer) → first_no (kept_questions L t) ≡ answer
@@ -34,6 +33,6 @@ module _ (L : Layer) (t : List ℕ) where
       (accepted, all-kept-of L t accepted.sound accepted.exact accepted.entries both.1)
 
   -- the table at exit, whatever the answer
-  pub simplify-leaves : (tolerance : ℕ) {u : List ℕ} (r : Simplified) → outcome r u ≡ simplify_of L tolerance t → u ≡ (simplify_of L tolerance t).table
-  simplify-leaves tolerance (Done removed tried) promised = λ i. (promised i).table
-  simplify-leaves tolerance (Refused q place) promised = λ i. (promised i).table
+  pub simplify-leaves : (tolerance : ℕ) {u : List ℕ} (r : Result RunCounts Refused) → outcome r u ≡ simplify_of L tolerance t → u ≡ (simplify_of L tolerance t).table
+  simplify-leaves tolerance (Ok _) promised = λ i. (promised i).table
+  simplify-leaves tolerance (Err _) promised = λ i. (promised i).table

@@ -113,7 +113,7 @@ module _ {L : Layer} {f : Edge} {n : ℕ} (contour : HasSticks L f n) where
       top-is = omega (arith, next-wait contour tolerance t₀ with-top, waiting-length runs (top - 1))
 
       pub few : top ≤ 22
-      few = omega (arith, top-is, contour-few (record { sound = contour.sound; stick = contour.stick }) tolerance t₀ tried)
+      few = omega (arith, top-is, contour-few contour.sound f contour.stick tolerance t₀ tried)
 
       pub top_from : RunFrom L n e p (top_run runs top)
       top_from = with-top.runs.0

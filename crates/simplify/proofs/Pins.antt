@@ -1,15 +1,14 @@
 -- Simplify leaves every pinned entry as it is, on every layer and table: what is removed of a run that passes is not pinned (`run` Pins), so a run
 -- that is tried leaves the pins, a contour's two runs do, and one contour after the other.
+use Rattle.std.specs.Prelude.{Err}
 use mathlib.Core.Path.{◌≡◌, refl, ◌∙◌}
 use mathlib.Core.List.{List}
 use Prim.Native.Nat.{ℕ, zero, suc, ◌-◌}
 use lib.ListN.{length}
 use Rattle.arith.proofs.Booleans.{both-sides}
 use Rattle.grid.specs.Layer.{Layer}
-use Rattle.grid.specs.Questions.{first_no}
 use Rattle.grid.specs.declared.edge.Edge.{Edge}
-use Rattle.grid.specs.declared.question.Answer.{Answer}
-use Rattle.grid.specs.declared.question.Answer.TheVariants.{Yes, No}
+use Rattle.grid.specs.Questions.{Answer, Yes, first_no}
 use Rattle.contour.specs.Contours.{contour_of, first_sticks}
 use Rattle.table.specs.Pins.{PinsStay}
 use Rattle.table.proofs.Pins.{pins-same, pins-then, pins-fold}
@@ -46,4 +45,4 @@ module _ (L : Layer) (tolerance : ℕ) where
       by Yes e =
           rw (outcome-is L t tolerance Yes e, simplify-is L tolerance t)
           (pins-fold (λ s. s.table) (simplify_contour L tolerance) contour-pins (first_sticks L) (begun t))
-      by (No q place) e = rw (outcome-is L t tolerance (No q place) e) pins-same
+      by (Err refused) e = rw (outcome-is L t tolerance (Err refused) e) pins-same

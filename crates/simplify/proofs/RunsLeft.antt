@@ -247,13 +247,13 @@ module _ {L : Layer} {f : Edge} {n : ℕ} (contour : HasSticks L f n) where
 
       -- and so no more than 22
       pub left-few : suc (length l) ≤ 22
-      left-few = omega (arith, next-wait, contour-few (record { sound = contour.sound; stick = contour.stick }) tolerance t₀ s.tried)
+      left-few = omega (arith, next-wait, contour-few contour.sound f contour.stick tolerance t₀ s.tried)
 
     -- the counts are small, and no more runs are tried so far than in the end
     pub left-small : (s : Progress) (e : Edge) (p : ℕ) (l : List Run) → RunsLeft L tolerance f n t₀ s e p l
         → (s.removed ≤ 2095104) × (s.tried ≤ 4190208) × (s.tried ≤ (simplify_contour L tolerance (begun t₀) f).tried)
     left-small s e p l now =
         let a = rw now.gives at (all_more L tolerance s e l) in
-        let counts = contour-counts L tolerance (record { sound = contour.sound; stick = contour.stick }) (begun t₀) in
+        let counts = contour-counts L tolerance contour.sound f contour.stick (begun t₀) in
         let c = most-sticks contour in
         (omega (arith, a.0, counts, contour.all), omega (arith, a.1, counts, contour.all), a.1)

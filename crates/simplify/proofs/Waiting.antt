@@ -10,12 +10,13 @@ use native.Mathlib.Omega.{arith}
 use lib.ListN.{length, get_or, length-append}
 use Rattle.arith.proofs.Booleans.{both-sides}
 use Rattle.grid.specs.Layer.{Layer}
+use Rattle.grid.specs.Edges.{is_stick}
 use Rattle.grid.specs.declared.edge.Edge.{Edge}
 use Rattle.grid.specs.Questions.{Sound}
 use Rattle.contour.specs.Contours.{contour_of, first_sticks}
 use Rattle.contour.proofs.Theorems.{AllSticks, head-stick, tail-sticks, firsts-sticks}
 use Rattle.drawn.proofs.FourKept.{four-sticks}
-use Rattle.run.specs.Runs.{stick_after, passes, StickOf, HasSticks}
+use Rattle.run.specs.Runs.{stick_after, passes, HasSticks}
 use Rattle.run.proofs.Steps.{most-sticks}
 use Rattle.simplify.specs.Runs.{Progress, half, one_tried, try_run, simplify_contour, simplify}
 use Rattle.simplify.specs.Waiting.{waits_of_run, waits_of, waits_in_turn, waits}
@@ -143,11 +144,11 @@ module _ (L : Layer) (tolerance : ℕ) where
       waits-splits d s e n others f ∙ (λ i. suc others ∷ (first i ++ second i)) ∙ sym (waits-splits d' s e n others f))
 
 -- The contour of any stick of a sound layer, from any table on: 21 at the most,
-module _ {L : Layer} {f : Edge} (of : StickOf L f) (tolerance : ℕ) (t : List ℕ) where
+module _ {L : Layer} (sound : Sound L) (f : Edge) (stick : is_stick L f ≡ true) (tolerance : ℕ) (t : List ℕ) where
   contour-21 : AtMost 21 (waits_of L tolerance t f)
   contour-21 =
-      let contour : HasSticks L f (length (contour_of L f)) = record { sound = of.sound; stick = of.stick; all = refl } in
-      let four = four-sticks L of.sound f of.stick in
+      let contour : HasSticks L f (length (contour_of L f)) = record { sound = sound; stick = stick; all = refl } in
+      let four = four-sticks L sound f stick in
       contour-below L tolerance 20 t f (omega (arith, four)) (omega (arith, most-sticks contour))
 
   pub contour-few : (k : ℕ) → get_or (waits_of L tolerance t f) k 0 ≤ 22
@@ -159,7 +160,7 @@ module _ {L : Layer} (sound : Sound L) (tolerance : ℕ) where
   unfolding waits_in_turn
   in-turn-most [] h t = none_above
   in-turn-most (f ∷ l) h t =
-      both-lists _ _ (contour-21 (record { sound = sound; stick = head-stick sound f l h }) tolerance t)
+      both-lists _ _ (contour-21 sound f (head-stick sound f l h) tolerance t)
       (in-turn-most l (tail-sticks sound f l h) (simplify_contour L tolerance (begun t) f).table)
 
   pub at-most-21 : (t : List ℕ) (k : ℕ) → get_or (waits L tolerance t) k 0 ≤ 21

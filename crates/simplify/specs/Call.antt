@@ -1,11 +1,12 @@
 -- The call Simplify: "with a tolerance T of 0 to 255".
-use Rattle.std.specs.Prelude.{List, ℕ}
+use Rattle.std.specs.Prelude.{Result, Ok, Err, List, ℕ}
 use Rattle.grid.specs.Layer.{Layer}
 use Rattle.grid.specs.Questions.{first_no, if_all_yes, number_of}
+use Rattle.grid.specs.declared.refusal.Refused.{Refused}
 use Rattle.held.specs.Questions.{kept_questions}
 use Rattle.simplify.specs.Runs.{Progress, simplify}
-use Rattle.simplify.specs.declared.call.Simplified.{Simplified}
-use Rattle.simplify.specs.declared.call.Simplified.TheVariants.{Done, Refused}
+use Rattle.simplify.specs.Parts.{reached}
+use Rattle.simplify.specs.declared.tries.RunCounts.{RunCounts}
 
 -- the number of a refusal and its place, both 0 where the call is done; "the vertices removed and the runs tried"; and the table at exit
 pub record Outcome : Type 0 where
@@ -28,6 +29,6 @@ simplify_of L tolerance t =
     (finished (simplify L tolerance t))
 
 -- what an answer and a table at exit say
-abbrev pub outcome : Simplified → List ℕ → Outcome
-outcome (Done removed tried) t = record { refusal = 0; place = 0; removed = removed; tried = tried; table = t }
-outcome (Refused q place) t = record { refusal = number_of q; place = place; removed = 0; tried = 0; table = t }
+abbrev pub outcome : Result RunCounts Refused → List ℕ → Outcome
+outcome (Ok r) t = finished (reached r t)
+outcome (Err e) t = record { refusal = number_of e.question; place = e.place; removed = 0; tried = 0; table = t }

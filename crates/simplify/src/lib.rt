@@ -6,4 +6,5 @@ mod call;
 mod contours;
 mod tries;
 
-pub use call::{Simplified, simplify};
+pub use call::simplify;
+pub use tries::RunCounts;

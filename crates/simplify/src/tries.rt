@@ -1,11 +1,11 @@
 // Trying the runs of a contour, in one loop: take a run of those that wait, test it, and remove its inner vertices or push its two parts.
 ghost use Rattle.std.specs.Prelude.{◌≡◌};
-ghost use Rattle.grid.specs.Layer.{layer_of};
+ghost use Rattle.grid.specs.Plain.{plain};
 ghost use Rattle.table.specs.Lent.{LentAt};
 ghost use Rattle.simplify.specs.Runs.{half, simplify_contour};
 ghost use Rattle.simplify.specs.Parts.{begun, reached, run_to, ContourLent};
 
-use grid::{Edge, Size};
+use grid::{Edge, Layer};
 use run::{PLACES, contour_length, passes_run, put_marks, remove_inner, stick_at};
 
 // From this many sticks on a contour gets marks, by which the middle of a run is soon found.
@@ -51,21 +51,20 @@ fn run_to(edges: usize, end: Edge) -> Run
 // start the contour's second run and its first one; what stands after them means nothing. `runs[top - 1]` is taken next and starts at the stick `at`,
 // `place` steps on from `first`; each other one starts where the one after it ends.
 fn try_runs(
-    size: Size,
-    bitmap: &[u8],
+    layer: Layer,
     table: &mut [u16],
     t: u8,
     marks: &[u32],
     first: Edge,
     n: usize,
 ) -> RunCounts
-    requires { ContourLent (layer_of size bitmap.now) table.old first n marks.now }
-    ensures { reached result table.new ≡ simplify_contour (layer_of size bitmap.now) t (begun table.old) first }
+    requires { ContourLent (plain layer) table.old first n marks.now }
+    ensures { reached result table.new ≡ simplify_contour (plain layer.entry) t (begun table.old) first }
 {
     let middle = half_of(n);
     let second_run = run_to(n - middle, first);
     let mut runs: [Run; ROOM] = [second_run; ROOM];
-    runs[1] = run_to(middle, stick_at(size, bitmap, marks, first, 0, middle));
+    runs[1] = run_to(middle, stick_at(layer, marks, first, 0, middle));
     let mut top: usize = 2;
     let mut at = first;
     let mut place: usize = 0;
@@ -75,15 +74,15 @@ fn try_runs(
         top -= 1;
         let run = runs[top];
         tried += 1;
-        if passes_run(size, bitmap, table, t, at, run.end, run.edges) {
-            remove_inner(size, bitmap, table, at, run.edges);
+        if passes_run(layer, table, t, at, run.end, run.edges) {
+            remove_inner(layer, table, at, run.edges);
             removed += run.edges - 1;
             place += run.edges;
             at = run.end;
         } else {
             let h = half_of(run.edges);
             let second_part = run_to(run.edges - h, run.end);
-            let first_part = run_to(h, stick_at(size, bitmap, marks, at, place, h));
+            let first_part = run_to(h, stick_at(layer, marks, at, place, h));
             runs[top] = second_part;
             runs[top + 1] = first_part;
             top += 2;
@@ -93,21 +92,15 @@ fn try_runs(
 }
 
 // Simplifies the contour that starts at `first`.
-pub fn simplify_contour(
-    size: Size,
-    bitmap: &[u8],
-    table: &mut [u16],
-    t: u8,
-    first: Edge,
-) -> RunCounts
-    requires { LentAt (layer_of size bitmap.now) table.old first }
-    ensures { reached result table.new ≡ simplify_contour (layer_of size bitmap.now) t (begun table.old) first }
+pub fn simplify_contour(layer: Layer, table: &mut [u16], t: u8, first: Edge) -> RunCounts
+    requires { LentAt (plain layer) table.old first }
+    ensures { reached result table.new ≡ simplify_contour (plain layer.entry) t (begun table.old) first }
 {
-    let n = contour_length(size, bitmap, first);
+    let n = contour_length(layer, first);
     if LONG_CONTOUR <= n {
         let mut marks: [u32; PLACES] = [0; PLACES];
-        put_marks(size, bitmap, first, n, &mut marks);
-        return try_runs(size, bitmap, table, t, &marks, first, n);
+        put_marks(layer, first, n, &mut marks);
+        return try_runs(layer, table, t, &marks, first, n);
     }
-    try_runs(size, bitmap, table, t, &[], first, n)
+    try_runs(layer, table, t, &[], first, n)
 }

@@ -12,9 +12,8 @@ use lib.Seq.{length-sets}
 use Rattle.arith.proofs.Booleans.{both-sides}
 use Rattle.grid.specs.Layer.{Layer}
 use Rattle.grid.specs.Edges.{edge_count}
-use Rattle.grid.specs.Questions.{first_no}
-use Rattle.grid.specs.declared.question.Answer.{Answer}
-use Rattle.grid.specs.declared.question.Answer.TheVariants.{Yes, No}
+use Rattle.std.specs.Prelude.{Err}
+use Rattle.grid.specs.Questions.{Answer, Yes, first_no}
 use Rattle.grid.proofs.Answers.{number-within, append-yes}
 use Rattle.table.specs.Entries.{length_questions}
 use Rattle.table.specs.Kept.{all_kept_answer}
@@ -42,7 +41,7 @@ module _ (L : Layer) (t : List ℕ) (done : (trace_of L t).refusal ≡ 0) where
     where
       by : (a : Answer) → first_no (length_questions L (length t)) ≡ a → (trace_of L t).refusal ≡ 0 → first_no (length_questions L (length t)) ≡ Yes
       by Yes e done = e
-      by (No q place) e done = absurd (omega (arith, number-within q, rw e at done))
+      by (Err n) e done = absurd (omega (arith, number-within n.question, rw e at done))
 
   -- so 1 to 7 are answered yes for each accepted table
   held-yes : (u : List ℕ) → Accepted L u → first_no (held_questions L u) ≡ Yes

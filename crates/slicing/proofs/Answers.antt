@@ -10,27 +10,26 @@ use lib.ListN.{length, get_or, take, drop, length-drop}
 use lib.Seq.{take_all}
 use Rattle.arith.proofs.Booleans.{and_split}
 use Rattle.grid.specs.Layer.{Layer, layer_of, size_of}
-use Rattle.grid.specs.Questions.{number_of, first_no}
-use Rattle.grid.specs.declared.question.Refusal.{Refusal}
-use Rattle.grid.specs.declared.question.Answer.TheVariants.{Yes}
+use Rattle.std.specs.Prelude.{Result, Ok, Err}
+use Rattle.std.specs.Result.{result_unwrap_or}
+use Rattle.grid.specs.Questions.{Answer, Yes, number_of, first_no}
+use Rattle.grid.specs.declared.refusal.Refused.{Refused}
 use Rattle.grid.proofs.Answers.{number-within}
 use Rattle.held.specs.Questions.{held_questions}
 use Rattle.trace.specs.Trace as Trace
-use Rattle.trace.specs.declared.tracing.Traced.{Traced}
 use Rattle.smooth.specs.Call as Smooth
-use Rattle.smooth.specs.declared.smoothing.Smoothing.{Smoothing}
+use Rattle.smooth.specs.declared.settling.Settling.{Settling}
 use Rattle.smooth.proofs.Held.{smooth-leaves}
 use Rattle.simplify.specs.Call as Simplify
-use Rattle.simplify.specs.declared.call.Simplified.{Simplified}
+use Rattle.simplify.specs.declared.tries.RunCounts.{RunCounts}
 use Rattle.simplify.proofs.Outcomes.{simplify-leaves}
 use Rattle.sheet.specs.Written as Sheet
 use Rattle.sheet.specs.Written.{sheet_of}
-use Rattle.sheet.specs.declared.write.Written.{Written}
 use Rattle.sheet.proofs.Answered.{written-done}
 use Rattle.slicing.specs.Slice.{size_letter, command_length, whole_command, number_at, sides_fit, refused_bytes, pass_limit, tolerance, refined, bytes_after, layer_bytes, slice_of, stored, outcome}
 
 -- Smooth and then Simplify: t, t₁ and t₂ are the tables before, between and after
-pub refined-is : (L : Layer) (t t₁ t₂ : List ℕ) (s : Smoothing) (r : Simplified)
+pub refined-is : (L : Layer) (t t₁ t₂ : List ℕ) (s : Result Settling Refused) (r : Result RunCounts Refused)
     → Smooth.outcome s t₁ ≡ Smooth.smooth_of L pass_limit t → Simplify.outcome r t₂ ≡ Simplify.simplify_of L tolerance t₁ → t₂ ≡ refined L t
 unfolding refined
 refined-is L t t₁ t₂ s r smoothed simplified =
@@ -38,38 +37,33 @@ refined-is L t t₁ t₂ s r smoothed simplified =
     ∙ ap (λ (u : List ℕ). (Simplify.simplify_of L tolerance u).table) (smooth-leaves L pass_limit t s smoothed)
 
 -- the outcome of Trace, by its answer r, and the bytes after it
-module _ (L : Layer) (t : List ℕ) (r : Traced) (o : Trace.Outcome) (asked : Trace.outcome r t ≡ o) where
-  pub traced-done : r ≡ Traced.Done → record { refusal = 0; place = 0; table = t } ≡ o
-  traced-done e = sym (ap (λ (x : Traced). Trace.outcome x t) e) ∙ asked
+module _ (L : Layer) (t : List ℕ) (r : Answer) (o : Trace.Outcome) (asked : Trace.outcome r t ≡ o) where
+  pub traced-done : r ≡ Yes → record { refusal = 0; place = 0; table = t } ≡ o
+  traced-done e = rw e at asked
 
-  pub bytes-done : r ≡ Traced.Done → sheet_of L (refined L t) ≡ bytes_after L o
+  pub bytes-done : r ≡ Yes → sheet_of L (refined L t) ≡ bytes_after L o
   unfolding bytes_after
   bytes-done e = ap (bytes_after L) (traced-done e)
 
-  pub bytes-refused : (q : Refusal) (place : ℕ) → r ≡ Traced.Refused q place → refused_bytes (number_of q) ≡ bytes_after L o
+  pub bytes-refused : {n : Refused} → r ≡ Err n → refused_bytes (number_of n.question) ≡ bytes_after L o
   unfolding bytes_after
-  bytes-refused q place e =
-      let some : eqb (number_of q) 0 ≡ false = ne_eqb (number_of q) 0 (λ z. omega (arith, number-within q)) in
-      sym (ap (λ (b : Bool). cond b (sheet_of L (refined L t)) (refused_bytes (number_of q))) some)
-      ∙ ap (bytes_after L) (sym (ap (λ (x : Traced). Trace.outcome x t) e) ∙ asked)
+  bytes-refused {n} e =
+      let number = number_of n.question in
+      let some : eqb number 0 ≡ false = ne_eqb number 0 (λ z. omega (arith, number-within n.question)) in
+      sym (ap (λ (b : Bool). cond b (sheet_of L (refined L t)) (refused_bytes number)) some) ∙ ap (bytes_after L) (rw e at asked)
 
 -- what follows the command
 pub after-command : (input : List ℕ) → take (length input - command_length) (drop command_length input) ≡ drop command_length input
 after-command input = take_all (length input - command_length) (drop command_length input) (omega (arith, length-drop command_length input))
 
 -- writing the sheet of a layer that passes 1 to 7, to an output that holds it, is done
-module _ (L : Layer) (t out out' : List ℕ) (r : Written) (yes-7 : first_no (held_questions L t) ≡ Yes)
-    (room : length (sheet_of L t) ≤ length out) (asked : Sheet.outcome r out' ≡ Sheet.write_of L t out) where
-  pub written_is : (n : ℕ) → r ≡ Written.Done n → outcome n out' ≡ stored out (sheet_of L t)
-  written_is n e =
-      ap (λ (o : Sheet.Outcome). outcome o.written o.output)
-      (sym (ap (λ (x : Written). Sheet.outcome x out') e) ∙ asked ∙ written-done L t out yes-7 room)
-
-  pub written-never : (q : Refusal) (place : ℕ) → r ≡ Written.Refused q place → ⊥
-  written-never q place e =
-      let none : number_of q ≡ 0 =
-      ap (λ (o : Sheet.Outcome). o.refusal) (sym (ap (λ (x : Written). Sheet.outcome x out') e) ∙ asked ∙ written-done L t out yes-7 room) in
-      omega (arith, number-within q, none)
+module _ (L : Layer) (t out : List ℕ) (yes-7 : first_no (held_questions L t) ≡ Yes) (room : length (sheet_of L t) ≤ length out) where
+  pub written_is : {out' : List ℕ} (r : Result ℕ Refused) → Sheet.outcome r out' ≡ Sheet.write_of L t out
+      → outcome (result_unwrap_or r 0) out' ≡ stored out (sheet_of L t)
+  written_is (Ok n) asked = ap (λ (o : Sheet.Outcome). outcome o.written o.output) (asked ∙ written-done L t out yes-7 room)
+  written_is (Err n) asked =
+      let none : number_of n.question ≡ 0 = ap (λ (o : Sheet.Outcome). o.refusal) (asked ∙ written-done L t out yes-7 room) in
+      absurd (omega (arith, number-within n.question, none))
 
 -- The command and the sides
 

@@ -13,10 +13,9 @@ use Rattle.arith.proofs.Booleans.{and_split}
 use Rattle.arith.proofs.Ranges.{count-le}
 use Rattle.grid.specs.Layer.{Layer}
 use Rattle.grid.specs.Edges.{edge_count, stick_at}
-use Rattle.grid.specs.Questions.{Sized, Sound}
+use Rattle.grid.specs.Questions.{Yes, Sized, Sound}
 use Rattle.grid.specs.declared.layer.Size.{Size}
 use Rattle.grid.specs.declared.edge.Edge.{Edge}
-use Rattle.grid.specs.declared.question.Answer.TheVariants.{Yes}
 use Rattle.contour.specs.Walk.{contour}
 use Rattle.contour.specs.Contours.{walk_of, contour_of, first_sticks}
 use Rattle.contour.proofs.Theorems.{total-length, AllSticks, head-stick, tail-sticks, firsts-sticks}

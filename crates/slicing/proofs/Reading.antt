@@ -13,11 +13,9 @@ use lib.Seq.{take_all, length-take-le, get_or-take}
 use Rattle.arith.proofs.Booleans.{both-sides}
 use Rattle.grid.specs.Layer.{Layer, layer_of, size_of, stride}
 use Rattle.grid.specs.Edges.{edge_count}
-use Rattle.grid.specs.Questions.{sides_answer, length_answer}
-use Rattle.grid.specs.declared.question.Refusal.TheVariants as Refusal
-use Rattle.grid.specs.declared.question.Answer.TheVariants.{Yes, No}
+use Rattle.grid.specs.Questions.{Yes, No, sides_answer, length_answer}
+use Rattle.grid.specs.declared.refusal.Refusal.TheVariants as Refusal
 use Rattle.trace.specs.Trace.{trace_of}
-use Rattle.trace.specs.declared.tracing.Traced.TheVariants.{Refused}
 use Rattle.slicing.specs.Slice.{command_length, whole_command, number_at, side_limit, sides_fit, refused_bytes, layer_bytes, slice_of, bitmap_limit, input_limit}
 use Rattle.slicing.proofs.Bounds.{small_of}
 use Rattle.slicing.proofs.Answers.{bytes-refused, no-command, bad-sides, good-sides}
@@ -51,7 +49,7 @@ module _ (L : Layer) (fits : sides_fit L.size ≡ true) (long : bitmap_limit < l
   unfolding layer_bytes
   too_long =
       let t : List ℕ = replicate (edge_count L.size) 0 in
-      sym (bytes-refused L t (Refused Refusal.BitmapLength 0) (trace_of L t) (traced-no t) Refusal.BitmapLength 0 refl)
+      sym (bytes-refused L t (No Refusal.BitmapLength 0) (trace_of L t) (traced-no t) refl)
 
 module _ (input : List ℕ) (long : input_limit < length input) where
   abbrev start : List ℕ

@@ -2,15 +2,12 @@
 ghost use Rattle.std.specs.Prelude.{◌≡◌, true, ◌≤◌, length};
 ghost use Rattle.grid.specs.Layer.{layer_of, size_of};
 ghost use Rattle.grid.specs.Edges.{edge_count};
-ghost use Rattle.grid.specs.Questions.{number_of, first_no};
-ghost use Rattle.grid.specs.declared.question.Answer.TheVariants.{Yes};
+ghost use Rattle.grid.specs.Questions.{number_of, first_no, Yes};
 ghost use Rattle.held.specs.Questions.{held_questions};
 ghost use Rattle.sheet.specs.Written.{sheet_of};
 ghost use Rattle.slicing.specs.Slice.{sides_fit, table_limit, answer_limit, refused_bytes, refined, bytes_in, layer_bytes, stored, outcome};
 
 use grid::{Refusal, Size};
-use sheet::Written;
-use trace::Traced;
 
 // How many grid edges a layer of 64 by 64 samples has, the most that there can be: `table_limit` of specs/Slice.antt.
 const TABLE_LIMIT: usize = 8064;
@@ -29,7 +26,7 @@ pub fn refuse(question: Refusal, output: &mut [u8]) -> usize
     ensures { outcome result output.new ≡ stored output.old (refused_bytes (number_of question)) }
 {
     output[0] = REFUSAL_MARK;
-    output[1] = grid::refusal_number(question) as u8;
+    output[1] = u32::from(question) as u8;
     2
 }
 
@@ -37,8 +34,8 @@ pub fn refuse(question: Refusal, output: &mut [u8]) -> usize
 fn refine(w: u16, h: u16, bitmap: &[u8], table: &mut [u16])
     ensures { table.new ≡ refined (layer_of (size_of w h) bitmap.now) table.old }
 {
-    smooth::smooth(w, h, bitmap, table, PASS_LIMIT);
-    simplify::simplify(w, h, bitmap, table, TOLERANCE);
+    let _ = smooth::smooth(w, h, bitmap, table, PASS_LIMIT);
+    let _ = simplify::simplify(w, h, bitmap, table, TOLERANCE);
 }
 
 // Writes the sheet of a layer that passes questions 1 to 7, to an output that holds it.
@@ -47,11 +44,7 @@ fn write(w: u16, h: u16, bitmap: &[u8], table: &[u16], output: &mut [u8]) -> usi
     requires room { length (sheet_of (layer_of (size_of w h) bitmap.now) table.now) ≤ length output.old }
     ensures { outcome result output.new ≡ stored output.old (sheet_of (layer_of (size_of w h) bitmap.now) table.now) }
 {
-    let written = sheet::write_sheet(w, h, bitmap, table, output);
-    match written {
-        Written::Done(n) => n,
-        Written::Refused(_, _) => 0,
-    }
+    sheet::write_sheet(w, h, bitmap, table, output).unwrap_or(0)
 }
 
 // The answer to a layer, by the table that it is traced in.
@@ -60,14 +53,11 @@ fn slice_in(w: u16, h: u16, bitmap: &[u8], table: &mut [u16], output: &mut [u8])
     requires room { answer_limit ≤ length output.old }
     ensures { outcome result output.new ≡ stored output.old (bytes_in (layer_of (size_of w h) bitmap.now) table.old) }
 {
-    let traced = trace::trace(w, h, bitmap, table);
-    match traced {
-        Traced::Done => {
-            refine(w, h, bitmap, table);
-            write(w, h, bitmap, table, output)
-        }
-        Traced::Refused(question, _) => refuse(question, output),
+    if let Err(refused) = trace::trace(w, h, bitmap, table) {
+        return refuse(refused.question, output);
     }
+    refine(w, h, bitmap, table);
+    write(w, h, bitmap, table, output)
 }
 
 // How many entries the table of a layer has, one for each grid edge.

@@ -4,10 +4,9 @@ use mathlib.Core.Path.{◌≡◌, refl, sym, ◌∙◌, ap}
 use mathlib.Core.List.{List}
 use Prim.Native.Nat.{ℕ}
 use Rattle.grid.specs.Layer.{Layer}
-use Rattle.grid.specs.Questions.{Sound, first_no}
-use Rattle.grid.specs.declared.question.Refusal.{Refusal}
-use Rattle.grid.specs.declared.question.Answer.{Answer}
-use Rattle.grid.specs.declared.question.Answer.TheVariants.{Yes, No}
+use Rattle.std.specs.Prelude.{Result, Ok, Err}
+use Rattle.grid.specs.Questions.{Answer, Yes, Sound, first_no}
+use Rattle.grid.specs.declared.refusal.Refused.{Refused}
 use Rattle.table.specs.Kept.{all_kept_answer}
 use Rattle.table.proofs.AllKept.{AllKept, passes-all-kept}
 use Rattle.held.specs.Questions.{kept_questions, Accepted}
@@ -15,7 +14,7 @@ use Rattle.held.proofs.Holding.{all-kept-accepted}
 use Rattle.held.proofs.Asking.{kept-of-yes}
 use Rattle.smooth.specs.Smooth.{Smoothed, smooth, Smoothable}
 use Rattle.smooth.specs.Call.{Outcome, refused_with, done_with, answered, asked, smooth_of, outcome}
-use Rattle.smooth.specs.declared.smoothing.Smoothing.{Smoothing}
+use Rattle.smooth.specs.declared.settling.Settling.{Settling}
 use Rattle.smooth.proofs.Walking.{smoothable-kept}
 use Rattle.smooth.proofs.Rounds.{smooth-kept}
 
@@ -36,13 +35,13 @@ module _ (L : Layer) (limit : ℕ) (t : List ℕ) where
   pub outcome-done : first_no (kept_questions L t) ≡ Yes → {r : Outcome} → r ≡ done_with (smooth L limit t) → r ≡ smooth_of L limit t
   outcome-done e is = is ∙ sym (outcome-is L limit t Yes e)
 
-  pub outcome-refused : {q : Refusal} {place : ℕ} → first_no (kept_questions L t) ≡ No q place → refused_with q place t ≡ smooth_of L limit t
-  outcome-refused {q} {place} e = sym (outcome-is L limit t (No q place) e)
+  pub outcome-refused : {n : Refused} → first_no (kept_questions L t) ≡ Err n → refused_with n.question n.place t ≡ smooth_of L limit t
+  outcome-refused {n} e = sym (outcome-is L limit t (Err n) e)
 
   -- the table at exit, whatever the answer
-  pub smooth-leaves : {u : List ℕ} (r : Smoothing) → outcome r u ≡ smooth_of L limit t → u ≡ (smooth_of L limit t).table
-  smooth-leaves (Smoothing.Done passes total settled) promised = λ i. (promised i).table
-  smooth-leaves (Smoothing.Refused q place) promised = λ i. (promised i).table
+  pub smooth-leaves : {u : List ℕ} (r : Result Settling Refused) → outcome r u ≡ smooth_of L limit t → u ≡ (smooth_of L limit t).table
+  smooth-leaves (Ok _) promised = λ i. (promised i).table
+  smooth-leaves (Err _) promised = λ i. (promised i).table
 
 -- two rules that give the same on tables with all vertices kept make the same call, whatever is lent
 pub same-call : (L : Layer) (t : List ℕ) (one other : Smoothed) → (Sound L → AllKept L t → one ≡ other)
@@ -51,7 +50,7 @@ same-call L t one other same = by (first_no (kept_questions L t)) refl
   where
     by : (answer : Answer) → first_no (kept_questions L t) ≡ answer → answered answer t one ≡ answered answer t other
     by Yes e = let given = smoothable-of L t e in ap done_with (same given.sound (smoothable-kept given))
-    by (No q place) e = refl
+    by (Err _) e = refl
 
 -- a layer and a table that pass questions 1 to 7 and 15 pass them again after Smooth
 pub smooth-held : (L : Layer) (limit : ℕ) (t : List ℕ) → first_no (kept_questions L t) ≡ Yes
@@ -68,4 +67,4 @@ smooth-keeps L limit t accepted = by (first_no (kept_questions L t)) refl
   where
     by : (answer : Answer) → first_no (kept_questions L t) ≡ answer → Accepted L (smooth_of L limit t).table
     by Yes e = (smooth-held L limit t e).0
-    by (No q place) e = rw (outcome-is L limit t (No q place) e) accepted
+    by (Err refused) e = rw (outcome-is L limit t (Err refused) e) accepted

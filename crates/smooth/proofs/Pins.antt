@@ -1,14 +1,13 @@
 -- Smooth leaves every pinned entry as it is, on every layer and table: a step does (`visit-pins`), so a pass does, all passes over a contour, and
 -- one contour after the other.
+use Rattle.std.specs.Prelude.{Err}
 use mathlib.Core.Path.{◌≡◌, refl}
 use mathlib.Core.List.{List}
 use Prim.Native.Nat.{ℕ}
 use lib.ListN.{length}
 use Rattle.grid.specs.Layer.{Layer}
-use Rattle.grid.specs.Questions.{first_no}
 use Rattle.grid.specs.declared.edge.Edge.{Edge}
-use Rattle.grid.specs.declared.question.Answer.{Answer}
-use Rattle.grid.specs.declared.question.Answer.TheVariants.{Yes, No}
+use Rattle.grid.specs.Questions.{Answer, Yes, first_no}
 use Rattle.contour.specs.Contours.{contour_of, first_sticks}
 use Rattle.table.specs.Pins.{PinsStay}
 use Rattle.table.proofs.Pins.{pins-same, pins-then, pins-fold}
@@ -40,4 +39,4 @@ module _ (L : Layer) where
         by Yes e =
             rw (outcome-is L limit t Yes e, smooth-is L limit t)
             (pins-fold (λ s. s.table) (smooth_next L limit) (λ s f. contour-pins s.table f) (first_sticks L) (no_contour t))
-        by (No q place) e = rw (outcome-is L limit t (No q place) e) pins-same
+        by (Err refused) e = rw (outcome-is L limit t (Err refused) e) pins-same

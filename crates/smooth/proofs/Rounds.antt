@@ -1,7 +1,7 @@
 -- Contours smoothed one after the other: that nothing is removed and the limit holds, and what a loop over them cites: the invariant
 -- `PartSmoothed`, the bound of the total, the next turn's, and the end.
 use mathlib.Core.Path.{◌≡◌, sym, ◌∙◌, ap}
-use mathlib.Core.Bool.{Bool, true, false, ◌&&◌, true≢false}
+use mathlib.Core.Bool.{Bool, false, ◌&&◌, true≢false}
 use mathlib.Core.List.{List, [], ◌∷◌, map, flatten, foldl}
 use Prim.Native.Nat.{ℕ, ◌+◌, ◌*◌, ◌≤◌, max}
 use native.Mathlib.Omega.{arith}
@@ -11,11 +11,8 @@ use Rattle.grid.specs.Layer.{Layer}
 use Rattle.grid.specs.Questions.{Sound}
 use Rattle.grid.specs.declared.edge.Edge.{Edge}
 use Rattle.contour.specs.Contours.{contour_of, first_sticks}
-use Rattle.contour.specs.Sets.{FirstSet}
-use Rattle.contour.specs.Cursors.{left, Placed, Opened, Moved}
-use Rattle.contour.specs.declared.cursor.Cursor.{Cursor}
 use Rattle.contour.proofs.Theorems.{AllSticks, head-stick, tail-sticks, firsts-sticks}
-use Rattle.contour.proofs.Cursors.{here-stick, here-left, none_left, fold-turn, fold_end}
+use Rattle.contour.proofs.Firsts.{FirstsLeft, firsts-start, firsts-turn, here-stick, fold-turn, fold_end}
 use Rattle.table.proofs.AllKept.{AllKept, passes-entries, passes-all-kept}
 use Rattle.smooth.specs.Smooth.{most_total, Smoothed, no_contour, with_contour, smooth_contour, smooth, Smoothable, SmoothableAt}
 use Rattle.smooth.proofs.Passes.{standing, smooth_next, smooth-is, StillKept, contour-kept, WithinLimit, contour-passes}
@@ -69,61 +66,61 @@ module _ (L : Layer) (limit : ℕ) where
 abbrev pub sticks_of : Layer → List Edge → ℕ
 sticks_of L l = length (flatten (map (contour_of L) l))
 
--- Smoothing stands at a cursor: smoothing the contours that are left, on top of what is done, smooths the layer.
-pub record PartSmoothed (L : Layer) (limit : ℕ) (t₀ : List ℕ) (s : Smoothed) (c : Cursor) : Type 0 where
-  pub placed : Placed L c
+-- Smoothing the contours that are left, on top of what is done, smooths the layer.
+pub record PartSmoothed (L : Layer) (limit : ℕ) (t₀ : List ℕ) (s : Smoothed) (left : List Edge) : Type 0 where
+  pub firsts : FirstsLeft L left
   pub kept : AllKept L s.table
-  pub room : s.total + 254 * sticks_of L (left L c) ≤ most_total
-  pub still : foldl (smooth_next L limit) s (left L c) ≡ smooth L limit t₀
+  pub room : s.total + 254 * sticks_of L left ≤ most_total
+  pub still : foldl (smooth_next L limit) s left ≡ smooth L limit t₀
 
-pub smoothing-start : {L : Layer} {limit : ℕ} {t : List ℕ} {c : Cursor} → Sound L → Opened L c → AllKept L t → PartSmoothed L limit t (no_contour t) c
-smoothing-start {L} {limit} {t} sound o kept =
+pub smoothing-start : {L : Layer} {limit : ℕ} {t : List ℕ} {left : List Edge} → Sound L → left ≡ first_sticks L → AllKept L t
+    → PartSmoothed L limit t (no_contour t) left
+smoothing-start {L} {limit} {t} sound e kept =
     record {
-      placed = o.placed;
+      firsts = firsts-start L e;
       kept = kept;
-      room = omega (arith, vertices-most sound, ap (sticks_of L) o.left);
-      still = ap (foldl (smooth_next L limit) (no_contour t)) o.left ∙ sym (smooth-is L limit t);
+      room = omega (arith, vertices-most sound, ap (sticks_of L) e);
+      still = ap (foldl (smooth_next L limit) (no_contour t)) e ∙ sym (smooth-is L limit t);
     }
 
-module _ {L : Layer} {set : List ℕ} (firsts : FirstSet L set) {limit : ℕ} {t₀ : List ℕ} {s : Smoothed} {c : Cursor}
-    (g : PartSmoothed L limit t₀ s c) where
-  pub smoothing-end : c.more ≡ false → s ≡ smooth L limit t₀
-  smoothing-end over = fold_end (smooth_next L limit) s (smooth L limit t₀) (none_left firsts g.placed over) g.still
+module _ {L : Layer} {limit : ℕ} {t₀ : List ℕ} {s : Smoothed} {left : List Edge} (g : PartSmoothed L limit t₀ s left) where
+  pub smoothing-end : left ≡ [] → s ≡ smooth L limit t₀
+  smoothing-end over = fold_end (smooth_next L limit) s (smooth L limit t₀) over g.still
 
-  module _ (more : c.more ≡ true) where
-    -- the contour at the cursor can be smoothed
-    pub smoothing-here : SmoothableAt L s.table c.stick
-    smoothing-here = record { table = kept-smoothable firsts.sound g.kept; stick = here-stick firsts g.placed more }
+  module _ (sound : Sound L) {f : Edge} {left' : List Edge} (next : left ≡ f ∷ left') where
+    -- the first of them can be smoothed
+    pub smoothing-here : SmoothableAt L s.table f
+    smoothing-here = record { table = kept-smoothable sound g.kept; stick = here-stick g.firsts next sound }
 
     -- r is what the code finds of it
-    module _ {r : Smoothed} (found : r ≡ smooth_contour L limit s.table c.stick) where
-      found-kept : StillKept L c.stick r
-      found-kept = rw found (contour-kept firsts.sound c.stick (here-stick firsts g.placed more) limit g.kept)
+    module _ {r : Smoothed} (found : r ≡ smooth_contour L limit s.table f) where
+      found-kept : StillKept L f r
+      found-kept = rw found (contour-kept sound f smoothing-here.stick limit g.kept)
 
-      room-left : (l : List Edge) → left L c ≡ c.stick ∷ l → s.total + r.total + 254 * sticks_of L l ≤ most_total
+      room-left : s.total + r.total + 254 * sticks_of L left' ≤ most_total
       unfolding flatten
-      room-left l e =
+      room-left =
           omega (
             arith,
             g.room,
-            ap (sticks_of L) e,
-            length-append (contour_of L c.stick) (flatten (map (contour_of L) l)),
+            ap (sticks_of L) next,
+            length-append (contour_of L f) (flatten (map (contour_of L) left')),
             found-kept.total_most,
           )
 
       -- so the sum of the totals fits
       pub smoothing-most : s.total + r.total ≤ most_total
-      smoothing-most = omega (arith, room-left _ (here-left firsts g.placed more))
+      smoothing-most = omega (arith, room-left)
 
       -- p and b are what the code makes of the passes and of whether all are settled
-      pub smoothing-turn : {c' : Cursor} {p : ℕ} {b : Bool} → Moved L c c' → p ≡ max s.passes r.passes → b ≡ (s.settled && r.settled)
-          → PartSmoothed L limit t₀ (standing r.table p (s.total + r.total) b) c'
-      smoothing-turn {c'} m p_is b-is = rw (p_is, b-is)
+      pub smoothing-turn : {p : ℕ} {b : Bool} → p ≡ max s.passes r.passes → b ≡ (s.settled && r.settled)
+          → PartSmoothed L limit t₀ (standing r.table p (s.total + r.total) b) left'
+      smoothing-turn p_is b-is = rw (p_is, b-is)
           record {
-            placed = m.placed;
+            firsts = firsts-turn g.firsts next;
             kept = found-kept.kept;
-            room = room-left (left L c') m.left;
+            room = room-left;
             still =
-                ap (λ (x : Smoothed). foldl (smooth_next L limit) (with_contour s x) (left L c')) found
-                ∙ fold-turn (smooth_next L limit) s (smooth L limit t₀) m.left g.still;
+                ap (λ (x : Smoothed). foldl (smooth_next L limit) (with_contour s x) left') found
+                ∙ fold-turn (smooth_next L limit) s (smooth L limit t₀) next g.still;
           }

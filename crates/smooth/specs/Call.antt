@@ -1,13 +1,13 @@
 -- The call Smooth: what is asked, and what comes of it.
-use Rattle.std.specs.Prelude.{Bool, false, List, ℕ}
+use Rattle.std.specs.Prelude.{Result, Ok, Err, Bool, false, List, ℕ}
 use Rattle.grid.specs.Layer.{Layer}
-use Rattle.grid.specs.Questions.{first_no, if_all_yes, number_of}
-use Rattle.grid.specs.declared.question.Refusal.{Refusal}
-use Rattle.grid.specs.declared.question.Answer.{Answer}
+use Rattle.grid.specs.Questions.{Answer, first_no, if_all_yes, number_of}
+use Rattle.grid.specs.declared.refusal.Refusal.{Refusal}
+use Rattle.grid.specs.declared.refusal.Refused.{Refused}
 use Rattle.held.specs.Questions.{kept_questions}
-use Rattle.smooth.specs.declared.smoothing.Smoothing.{Smoothing}
-use Rattle.smooth.specs.declared.smoothing.Smoothing.TheVariants.{Done, Refused}
+use Rattle.smooth.specs.declared.settling.Settling.{Settling}
 use Rattle.smooth.specs.Smooth.{Smoothed, smooth}
+use Rattle.smooth.specs.Visit.{reached}
 
 -- the number of a refusal and its place, both 0 where the call is done; "the largest number of passes of any contour, the sum of their last
 -- totals, and settled if all are" (Note 3), else limit; and the table at exit
@@ -41,7 +41,6 @@ unfolding smooth
 smooth_of L limit t = asked L t (smooth L limit t)
 
 -- what an answer and a table at exit say
-abbrev pub outcome : Smoothing → List ℕ → Outcome
-outcome (Done passes total settled) t =
-    record { refusal = 0; place = 0; passes = passes; total = total; settled = settled; table = t }
-outcome (Refused q place) t = refused_with q place t
+abbrev pub outcome : Result Settling Refused → List ℕ → Outcome
+outcome (Ok r) t = done_with (reached r t)
+outcome (Err e) t = refused_with e.question e.place t

@@ -9,7 +9,7 @@ use Rattle.grid.specs.Layer.{Layer}
 use Rattle.grid.specs.Edges.{edge_count, is_stick}
 use Rattle.grid.specs.Questions.{Sound}
 use Rattle.grid.specs.declared.edge.Edge.{Edge}
-use Rattle.grid.specs.declared.question.Answer.TheVariants.{Yes}
+use Rattle.grid.specs.Questions.{Yes}
 use Rattle.step.specs.Walk.{next, prev}
 use Rattle.contour.specs.Contours.{contour_of, first_sticks}
 use Rattle.chord.specs.Crossing.{distance}

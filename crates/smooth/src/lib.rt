@@ -6,4 +6,5 @@ mod pass;
 mod settling;
 mod smoothing;
 
-pub use smoothing::{Smoothing, smooth};
+pub use settling::Settling;
+pub use smoothing::smooth;

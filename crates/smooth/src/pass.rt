@@ -1,15 +1,15 @@
 // A pass: the step at one vertex, and along one contour.
 ghost use Rattle.std.specs.Prelude.{◌≡◌};
-ghost use Rattle.grid.specs.Layer.{layer_of};
+ghost use Rattle.grid.specs.Plain.{plain};
 ghost use Rattle.smooth.specs.Smooth.{SmoothableAt};
 ghost use Rattle.smooth.specs.Visit.{Visitable, Visited, PassMade};
 
 use chord::{Position, position_of};
 use drawn::vertex_at;
-use grid::{Edge, Size, number_of};
+use grid::{Edge, Layer, number_of};
 use offset::new_offset;
 use step::{next_stick, previous_stick};
-use table::{Entry, encoded_of, has_pin, offset_of};
+use table::{Entry, has_pin, offset_of};
 
 // What a step gives: the offset after it, and the absolute change.
 #[derive(Clone, Copy)]
@@ -32,7 +32,7 @@ fn visit(table: &mut [u16], at: usize, e: Edge, p: Position, q: Position) -> Ste
         };
     }
     let new = new_offset(p, q, e, old);
-    table[at] = encoded_of(Entry::Kept(new));
+    table[at] = u16::from(Entry::Kept(new));
     Stepped {
         offset: new,
         change: usize::from(old.abs_diff(new)),
@@ -48,19 +48,19 @@ pub struct PassCounts {
 
 // A pass over the contour that starts at `first`. The previous vertex's position, the stick and the number of its entry go along, so that a vertex
 // costs one step of the walk.
-pub fn pass_contour(size: Size, bitmap: &[u8], table: &mut [u16], first: Edge) -> PassCounts
-    requires { SmoothableAt (layer_of size bitmap.now) table.old first }
-    ensures { PassMade (layer_of size bitmap.now) table.old first result table.new }
+pub fn pass_contour(layer: Layer, table: &mut [u16], first: Edge) -> PassCounts
+    requires { SmoothableAt (plain layer) table.old first }
+    ensures { PassMade (plain layer.entry) table.old first result table.new }
 {
-    let start = number_of(size, first);
-    let mut p = vertex_at(size, table, previous_stick(size, bitmap, first));
+    let start = number_of(layer.size, first);
+    let mut p = vertex_at(layer.size, table, previous_stick(layer, first));
     let mut e = first;
     let mut at = start;
     let mut total: usize = 0;
     let mut vertices: usize = 0;
     loop {
-        let next = next_stick(size, bitmap, e);
-        let after = number_of(size, next);
+        let next = next_stick(layer, e);
+        let after = number_of(layer.size, next);
         let q = position_of(next, offset_of(table[after]));
         let moved = visit(table, at, e, p, q);
         total += moved.change;

@@ -1,16 +1,15 @@
 // The smoothing of one contour, and of all contours, one after the other.
 ghost use Rattle.std.specs.Prelude.{◌≡◌, ◌≤◌};
-ghost use Rattle.grid.specs.Layer.{layer_of};
-ghost use Rattle.contour.specs.Sets.{FirstSet};
+ghost use Rattle.grid.specs.Plain.{plain};
 ghost use Rattle.smooth.specs.Smooth.{is_settled, most_vertices, most_total, smooth_contour, smooth, Smoothable, SmoothableAt};
 ghost use Rattle.smooth.specs.Visit.{reached};
 
 use super::pass::pass_contour;
-use bitset::EdgeSet;
-use contour::{first_contour, next_contour};
-use grid::{Edge, Size};
+use contour::{ContourSet, firsts_of};
+use grid::{Edge, Layer};
 
-// The passes made, the total of the last one and whether smoothing is settled: of one contour, or the largest, the sum and all of several.
+// The passes made, the total of the last one and whether smoothing is settled. Of several contours: the largest number of passes, the sum of the last
+// totals and whether all are settled.
 #[derive(Clone, Copy)]
 pub struct Settling {
     pub passes: usize,
@@ -28,14 +27,14 @@ fn is_settled(total: usize, vertices: usize) -> bool
 }
 
 // Passes over the contour that starts at `first` until it is settled, or the limit is reached.
-fn smooth_contour(size: Size, bitmap: &[u8], table: &mut [u16], first: Edge, limit: u16) -> Settling
-    requires { SmoothableAt (layer_of size bitmap.now) table.old first }
-    ensures { reached result table.new ≡ smooth_contour (layer_of size bitmap.now) limit table.old first }
+fn smooth_contour(layer: Layer, table: &mut [u16], first: Edge, limit: u16) -> Settling
+    requires { SmoothableAt (plain layer) table.old first }
+    ensures { reached result table.new ≡ smooth_contour (plain layer.entry) limit table.old first }
 {
     let most = usize::from(limit);
     let mut total: usize = 0;
     for passes in 1..=most {
-        let made = pass_contour(size, bitmap, table, first);
+        let made = pass_contour(layer, table, first);
         total = made.total;
         if is_settled(made.total, made.vertices) {
             return Settling {
@@ -52,28 +51,19 @@ fn smooth_contour(size: Size, bitmap: &[u8], table: &mut [u16], first: Edge, lim
     }
 }
 
-// Smooths every contour to its end before the next, by the set of first sticks.
-pub fn smooth_contours(
-    size: Size,
-    bitmap: &[u8],
-    table: &mut [u16],
-    set: &EdgeSet,
-    limit: u16,
-) -> Settling
-    requires smoothable { Smoothable (layer_of size bitmap.now) table.old }
-    requires first_set { FirstSet (layer_of size bitmap.now) set.now }
-    ensures { reached result table.new ≡ smooth (layer_of size bitmap.now) limit table.old }
+// Smooths every contour to its end before the next.
+pub fn smooth_contours(contours: ContourSet, table: &mut [u16], limit: u16) -> Settling
+    requires { Smoothable (plain contours.layer) table.old }
+    ensures { reached result table.new ≡ smooth (plain contours.entry.layer) limit table.old }
 {
     let mut passes: usize = 0;
     let mut total: usize = 0;
     let mut settled = true;
-    let mut at = first_contour(size, bitmap, set);
-    while at.more {
-        let one = smooth_contour(size, bitmap, table, at.stick, limit);
+    for first in firsts_of(contours) {
+        let one = smooth_contour(contours.layer, table, first, limit);
         passes = passes.max(one.passes);
         total += one.total;
         settled &= one.settled;
-        at = next_contour(size, bitmap, set, at);
     }
     Settling {
         passes,

@@ -1,32 +1,35 @@
 -- `ask_removal` meets its contract. `unpinned` is question 16 answered yes, from which the rest goes on.
 use mathlib.Core.Path.{◌≡◌, sym, ◌∙◌}
 use mathlib.Core.Bool.{true, true≢false}
-use Rattle.grid.specs.Layer.{layer_of}
+use Rattle.grid.specs.Plain.{plain}
 use Rattle.edit.specs.Edits.{may_move}
 use Rattle.edit.proofs.Asked.{editable, pinned-no, unpinned-yes, removal-pinned, removal-missed, removal-far, removal-done, removal-third-left}
 use Rattle.edit.proofs.edit.ask_removal.Goals as goal
 
 pub returns-then-pinned : goal.returns-then-pinned
 returns-then-pinned c =
-    removal-pinned c.args.t c.args.place c.requires (pinned-no _ _ c.args.stick c.carries_pin-pinned.ensures c.if-pinned.true)
+    rw c.at.ensures
+    (removal-pinned c.args.t c.args.place c.requires (pinned-no _ _ c.args.stick c.carries_pin-pinned.ensures c.if-pinned.true))
 
 pub joined-over-requires : goal.joined-over-requires
 joined-over-requires c = editable c.requires c.edge_named-e.ensures
 
 pub returns-then-not-crosses_all : goal.returns-then-not-crosses_all
 returns-then-not-crosses_all c =
-    let unpinned : (let a = c.args in may_move (layer_of a.size a.bitmap.now) a.table.now a.stick ≡ true) =
+    let unpinned : (let a = c.args in may_move (plain a.layer) a.table.now a.stick ≡ true) =
     unpinned-yes _ _ c.args.stick c.carries_pin-pinned.ensures c.if-pinned.false in
-    removal-missed c.args.t c.args.place c.requires unpinned c.edge_named-e.ensures
-    c.joined-over.ensures.value (sym c.crosses_all.ensures ∙ c.if-not-crosses_all.true)
+    rw c.at-then-not-crosses_all.ensures
+    (removal-missed c.args.t c.args.place c.requires unpinned c.edge_named-e.ensures
+    c.joined-over.ensures.value (sym c.crosses_all.ensures ∙ c.if-not-crosses_all.true))
 
 pub returns-then-not-within_all : goal.returns-then-not-within_all
 returns-then-not-within_all c =
-    let unpinned : (let a = c.args in may_move (layer_of a.size a.bitmap.now) a.table.now a.stick ≡ true) =
+    let unpinned : (let a = c.args in may_move (plain a.layer) a.table.now a.stick ≡ true) =
     unpinned-yes _ _ c.args.stick c.carries_pin-pinned.ensures c.if-pinned.false in
-    removal-far c.args.t c.args.place c.requires unpinned c.edge_named-e.ensures
+    rw c.at-then-not-within_all.ensures
+    (removal-far c.args.t c.args.place c.requires unpinned c.edge_named-e.ensures
     c.joined-over.ensures.value (sym c.crosses_all.ensures ∙ c.if-not-crosses_all.false)
-    (sym c.within_all.ensures ∙ c.if-not-within_all.true)
+    (sym c.within_all.ensures ∙ c.if-not-within_all.true))
 
 pub leaves_three-requires : goal.leaves_three-requires
 leaves_three-requires c =
@@ -35,7 +38,7 @@ leaves_three-requires c =
 -- after a yes to question 11 there are three left
 pub returns-then-not-leaves_three : goal.returns-then-not-leaves_three
 returns-then-not-leaves_three c =
-    let unpinned : (let a = c.args in may_move (layer_of a.size a.bitmap.now) a.table.now a.stick ≡ true) =
+    let unpinned : (let a = c.args in may_move (plain a.layer) a.table.now a.stick ≡ true) =
     unpinned-yes _ _ c.args.stick c.carries_pin-pinned.ensures c.if-pinned.false in
     let left =
     removal-third-left c.args.t c.args.place c.requires unpinned c.edge_named-e.ensures
@@ -44,7 +47,7 @@ returns-then-not-leaves_three c =
 
 pub returns : goal.returns
 returns c =
-    let unpinned : (let a = c.args in may_move (layer_of a.size a.bitmap.now) a.table.now a.stick ≡ true) =
+    let unpinned : (let a = c.args in may_move (plain a.layer) a.table.now a.stick ≡ true) =
     unpinned-yes _ _ c.args.stick c.carries_pin-pinned.ensures c.if-pinned.false in
     removal-done c.args.t c.args.place c.requires unpinned c.edge_named-e.ensures
     c.joined-over.ensures.value (sym c.crosses_all.ensures ∙ c.if-not-crosses_all.false)

@@ -2,21 +2,21 @@
 use native.Mathlib.Omega.{arith}
 use mathlib.Core.Path.{◌≡◌, ◌∙◌}
 use mathlib.Core.Bool.{true}
-use Rattle.grid.specs.Layer.{layer_of}
+use Rattle.grid.specs.Plain.{plain}
 use Rattle.edit.specs.Edits.{may_move}
 use Rattle.edit.proofs.Asked.{pinned-no, unpinned-yes, slidable, slide-pinned, slide-bad, slide-asked}
 use Rattle.edit.proofs.edit.ask_slide.Goals as goal
 
 pub returns-then-is_pinned : goal.returns-then-is_pinned
 returns-then-is_pinned c =
-    slide-pinned c.args.t c.args.place c.requires c.args.offset
-    (pinned-no _ _ c.args.stick c.carries_pin-is_pinned.ensures c.if-is_pinned.true)
+    rw c.at.ensures
+    (slide-pinned c.args.t c.args.place c.requires c.args.offset (pinned-no _ _ c.args.stick c.carries_pin-is_pinned.ensures c.if-is_pinned.true))
 
 pub returns-then-offset-eq0 : goal.returns-then-offset-eq0
 returns-then-offset-eq0 c =
-    let unpinned : (let a = c.args in may_move (layer_of a.size a.bitmap.now) a.table.now a.stick ≡ true) =
+    let unpinned : (let a = c.args in may_move (plain a.layer) a.table.now a.stick ≡ true) =
     unpinned-yes _ _ c.args.stick c.carries_pin-is_pinned.ensures c.if-is_pinned.false in
-    slide-bad c.args.t c.args.place c.requires c.args.offset unpinned c.if-offset-eq0.true
+    rw c.at-then-offset-eq0.ensures (slide-bad c.args.t c.args.place c.requires c.args.offset unpinned c.if-offset-eq0.true)
 
 pub slid_into-into-requires : goal.slid_into-into-requires
 slid_into-into-requires c = slidable c.requires c.edge_named-e.ensures c.if-offset-eq0.false (omega (arith, c.ranges.offset.fits))
@@ -26,7 +26,7 @@ slid_out-out-requires c = slidable c.requires c.edge_named-e.ensures c.if-offset
 
 pub returns : goal.returns
 returns c =
-    let unpinned : (let a = c.args in may_move (layer_of a.size a.bitmap.now) a.table.now a.stick ≡ true) =
+    let unpinned : (let a = c.args in may_move (plain a.layer) a.table.now a.stick ≡ true) =
     unpinned-yes _ _ c.args.stick c.carries_pin-is_pinned.ensures c.if-is_pinned.false in
     let movable =
     slidable c.requires c.edge_named-e.ensures c.if-offset-eq0.false (omega (arith, c.ranges.offset.fits)) in

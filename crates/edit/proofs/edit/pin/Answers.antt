@@ -14,7 +14,7 @@ returns-then-not-carries_kept c =
     let told = c.carries_kept.ensures in record {
       answered = λ bitmap.
           let L = layer_of a.size bitmap in
-          pin-none L a.table.now a.place a.stick (not-kept L a.table.now a.stick told (ap not c.if-not-carries_kept.true));
+          rw c.at.ensures (pin-none L a.table.now a.place a.stick (not-kept L a.table.now a.stick told (ap not c.if-not-carries_kept.true)));
       stored = λ bitmap. refl;
     }
 

@@ -1,6 +1,6 @@
 -- `ask_sheet` meets its contract.
 use mathlib.Core.Path.{sym, ◌∙◌}
-use Rattle.grid.specs.Layer.{layer_of}
+use Rattle.grid.specs.Plain.{plain}
 use Rattle.contour.specs.Contours.{first_sticks}
 use Rattle.sheet.specs.Commands.{size_command}
 use Rattle.formed.specs.Expected.{these, sheet_answer}
@@ -12,14 +12,14 @@ pub returns-then-not-has_size : goal.returns-then-not-has_size
 unfolding sheet_answer
 returns-then-not-has_size c =
     let a = c.args in
-    let L = layer_of a.size a.bitmap.now in
-    sym (command-wrong a.sheet.now 0 (these (size_command a.size)) (expected_from L (first_sticks L))
-    (sym c.has_size.ensures ∙ c.if-not-has_size.true))
+    let L = plain a.contours.layer in
+    rw c.at.ensures (sym (command-wrong a.sheet.now 0 (these (size_command a.contours.layer.size)) (expected_from L (first_sticks L))
+    (sym c.has_size.ensures ∙ c.if-not-has_size.true)))
 
 pub returns : goal.returns
 unfolding sheet_answer
 returns c =
     let a = c.args in
-    let L = layer_of a.size a.bitmap.now in
+    let L = plain a.contours.layer in
     let good = sym c.has_size.ensures ∙ c.if-not-has_size.false in
-    c.ask_contours.ensures ∙ sym (command-stands a.sheet.now 0 (these (size_command a.size)) (expected_from L (first_sticks L)) good)
+    c.ask_contours.ensures ∙ sym (command-stands a.sheet.now 0 (these (size_command a.contours.layer.size)) (expected_from L (first_sticks L)) good)

@@ -4,9 +4,9 @@ use lib.ListN.{length-set}
 use Rattle.item.proofs.Writing.{room-point}
 use Rattle.item.proofs.item.put_item.Goals as goal
 
-pub bounds-points-floats : goal.bounds-points-floats
-bounds-points-floats c = omega (arith, room-point c.requires c.in-Move.is)
+pub bounds-points-at : goal.bounds-points-at
+bounds-points-at c = omega (arith, room-point c.requires c.in-Move.is)
 
-pub bounds-points-floats-in-Move : goal.bounds-points-floats-in-Move
-bounds-points-floats-in-Move c =
-    omega (arith, room-point c.requires c.in-Move.is, length-set c.args.points.now c.args.at.floats c.in-Move.p.x)
+pub bounds-points-at-in-Move : goal.bounds-points-at-in-Move
+bounds-points-at-in-Move c =
+    omega (arith, room-point c.requires c.in-Move.is, length-set c.args.points.now c.args.at.now.floats c.in-Move.x)

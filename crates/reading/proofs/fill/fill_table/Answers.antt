@@ -15,4 +15,4 @@ pub store_contours-requires : goal.store_contours-requires
 store_contours-requires c =
     let given = c.requires in
     let none = c.fill.ensures.after (λ y e. e) ∙ ap (λ (n : ℕ). replicate n 0) given.table_len ∙ zeros 0 _ in
-    record { first_set = given.first_set; formed = given.formed; empty = none }
+    record { formed = given.formed; empty = none }

@@ -1,12 +1,7 @@
-use lib.ListN.{length}
-use Rattle.grid.specs.Layer.{layer_of}
-use Rattle.contour.specs.Walk.{rest}
-use Rattle.contour.specs.Contours.{walk_of}
+use Rattle.grid.specs.Plain.{plain}
+use Rattle.contour.specs.Remaining.{sticks_left}
 use Rattle.reading.proofs.Storing.{Storing}
 use Rattle.reading.proofs.fill.store_vertices.Given as goal
 
-abbrev pub invariant-loop-size : goal.invariant-loop-size
-invariant-loop-size l = Storing (layer_of l.size l.bitmap) l.sheet l.first l.i l.initial.table l.e l.at l.table
-
-abbrev pub decreases-loop-size : goal.decreases-loop-size
-decreases-loop-size l = length (rest (walk_of (layer_of l.size l.bitmap)) l.e l.first)
+abbrev pub invariant-loop-e : goal.invariant-loop-e
+invariant-loop-e l = Storing (plain l.layer) l.sheet l.fn.first l.i l.initial.table (sticks_left l.e-iterator) l.place l.table

@@ -3,7 +3,7 @@
 use mathlib.Core.Path.{◌≡◌, sym, ap, ◌∙◌}
 use Prim.Native.Nat.{ℕ, ◌<◌}
 use lib.ListN.{get_or}
-use Rattle.grid.specs.Layer.{layer_of}
+use Rattle.grid.specs.Plain.{plain}
 use Rattle.chord.specs.Points.{position}
 use Rattle.chord.specs.Runs.{crosses_run}
 use Rattle.drawn.specs.Neighbours.{next_kept}
@@ -17,7 +17,7 @@ use Rattle.reading.proofs.holding.held_edge.Goals as goal
 pub kept_after-end-requires-clause-not_removed : goal.kept_after-end-requires-clause-not_removed
 kept_after-end-requires-clause-not_removed c =
     let a = c.args in
-    let L = layer_of a.size a.bitmap.now in
+    let L = plain a.layer in
     kept-not-removed L (described L a.sheet.now) a.v.stick c.requires.kept
 
 pub position_from-p-requires-clause-near_edge : goal.position_from-p-requires-clause-near_edge
@@ -30,7 +30,7 @@ pub crosses_run-requires : goal.crosses_run-requires
 crosses_run-requires c =
     let given = c.requires in
     record {
-      sound = given.vertices_stand.sound;
+      sound = c.args.layer.sound;
       p_near = c.position_from-p.ensures.near;
       q_near = c.position_from-q.ensures.near;
       stick = vertex-stick given.vertices_stand.sound given.vertex_expected;
@@ -41,7 +41,7 @@ unfolding edge_crosses
 returns c =
     let a = c.args in
     let given = c.requires in
-    let L = layer_of a.size a.bitmap.now in
+    let L = plain a.layer in
     let s = a.sheet.now in
     let t = described L s in
     let bytes : (k : ℕ) → get_or s k 0 < 256 = λ k. (c.type_inv.sheet k).fits in

@@ -12,7 +12,7 @@ pub overflow_add-gap : goal.overflow_add-gap
 overflow_add-gap c =
     omega (
       arith,
-      edges-small c.args.size c.requires.vertices_stand.sound.whole.sized,
+      edges-small c.args.layer.size c.requires.vertices_stand.sound.whole.sized,
       seeking-below c.requires.vertices_stand c.requires.vertex_expected c.loop-at.invariant,
     )
 

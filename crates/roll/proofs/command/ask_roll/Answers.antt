@@ -17,7 +17,8 @@ pub returns-in_default : goal.returns-in_default
 returns-in_default c =
     let at = c.loop-at.at in
     let r = c.args.roll.now in
-    formed-wrong r at (at_other r at (omega arith) (omega arith) (omega arith) (omega arith)) ∙ c.loop-at.invariant.1
+    rw c.at.ensures
+    (formed-wrong r at (at_other r at (omega arith) (omega arith) (omega arith) (omega arith)) ∙ c.loop-at.invariant.1)
 
 pub returns-then-length-at : goal.returns-then-length-at
 returns-then-length-at c =
@@ -25,11 +26,12 @@ returns-then-length-at c =
     let r = c.args.roll.now in
     let less = c.loop-at-test.true in
     let short = c.if-length-at.true in
-    formed-wrong r at (elim c.match-byte.branch [
+    rw c.at-then-length-at.ensures
+    (formed-wrong r at (elim c.match-byte.branch [
       | goal.in-83 w ↦ at-slide-cut r at w.in-83.is (omega (arith, w.width-is))
       | goal.in-88 w ↦ at-removal-cut r at w.in-88.is (omega (arith, w.width-is))
       | goal.in-80 w ↦ at-pin-cut r at w.in-80.is (omega (arith, w.width-is))
-    ]) ∙ c.loop-at.invariant.1
+    ]) ∙ c.loop-at.invariant.1)
 
 pub loop-at-preserved : goal.loop-at-preserved
 loop-at-preserved c =
@@ -47,4 +49,4 @@ loop-at-preserved c =
 pub returns : goal.returns
 returns c =
     let r = c.args.roll.now in
-    formed-wrong r c.loop-at.at (at_none r c.loop-at.at c.loop-at-test.false) ∙ c.loop-at.invariant.1
+    rw c.at-2.ensures (formed-wrong r c.loop-at.at (at_none r c.loop-at.at c.loop-at-test.false) ∙ c.loop-at.invariant.1)

@@ -1,11 +1,11 @@
 -- `roll` meets its contract.
+use Rattle.std.proofs.lemmas.Result.{err_from_is_err_and}
 use mathlib.Core.Path.{◌≡◌, ap, sym, ◌∙◌}
 use mathlib.Core.List.{List, [], ◌∷◌, ◌++◌}
 use Prim.Native.Nat.{ℕ, ◌+◌}
 use lib.ListN.{length}
 use Rattle.grid.specs.Layer.{Layer, layer_of, size_of}
-use Rattle.grid.specs.Questions.{first_no, if_all_yes}
-use Rattle.grid.specs.declared.question.Answer.{Answer}
+use Rattle.grid.specs.Questions.{first_no, if_all_yes, Answer}
 use Rattle.grid.proofs.Answers.{append-all, first_no-yes}
 use Rattle.held.specs.Questions.{held_questions}
 use Rattle.held.proofs.Asking.{accepted-of}
@@ -21,22 +21,30 @@ outcome-is : (L : Layer) (tolerance : ℕ) (r t : List ℕ) {answer : Answer} �
 unfolding roll_of
 outcome-is L tolerance r t e = sym (ap (λ (x : Answer). if_all_yes x (refused 0 t) (run_from L tolerance r (length r + 1) 0 0 t)) e)
 
+pub invariant_of-run : goal.invariant_of-run
+invariant_of-run c =
+    let L = layer_of (size_of c.args.w c.args.h) c.args.bitmap.now in
+    let both = append-all (held_questions L c.args.table.now) (roll_answer c.args.commands.now ∷ []) (sym c.ask_all.ensures ∙ c.in_ok-ask_all.was) in
+    record { sound = (accepted-of L c.args.table.now both.0).sound }
+
 pub run-requires : goal.run-requires
 run-requires c =
     let a = c.args in
     let L = layer_of (size_of a.w a.h) a.bitmap.now in
     let t = a.table.now in
     let r = a.commands.now in
-    let both = append-all (held_questions L t) (roll_answer r ∷ []) (sym c.ask_all-answer.ensures ∙ c.in-Yes.is) in
+    let both = append-all (held_questions L t) (roll_answer r ∷ []) (sym c.ask_all.ensures ∙ c.in_ok-ask_all.was) in
     record { accepted = accepted-of L t both.0; formed = formed-all r ∙ (first_no-yes (roll_answer r) [] both.1).0 }
 
-pub returns-in-Yes : goal.returns-in-Yes
-returns-in-Yes c =
+pub returns : goal.returns
+returns c =
     let a = c.args in
     c.run.ensures
-    ∙ outcome-is _ a.t a.commands.now a.table.now (sym c.ask_all-answer.ensures ∙ c.in-Yes.is)
+    ∙ outcome-is _ a.t a.commands.now a.table.now (sym c.ask_all.ensures ∙ c.in_ok-ask_all.was)
 
-pub returns-in-No : goal.returns-in-No
-returns-in-No c =
+pub returns-in_err-ask_all : goal.returns-in_err-ask_all
+returns-in_err-ask_all c =
     let a = c.args in
-    outcome-is _ a.t a.commands.now a.table.now (sym c.ask_all-answer.ensures ∙ c.in-No.is)
+    let exit = err_from_is_err_and c.from_residual.result c.from_residual.ensures.1 in
+    rw (exit.1, exit.2)
+    (outcome-is _ a.t a.commands.now a.table.now (sym c.ask_all.ensures ∙ c.in_err-ask_all.was))

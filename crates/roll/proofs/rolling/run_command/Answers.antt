@@ -28,7 +28,7 @@ returns-in-88 c =
 
 pub returns-in-80 : goal.returns-in-80
 returns-in-80 c =
-    c.pin_at.ensures c.args.bitmap.now ∙ pin-here c.requires c.args.t c.in-80.is
+    c.pin_at.ensures c.args.layer.bitmap.now ∙ pin-here c.requires c.args.t c.in-80.is
 
 pub returns-in-69 : goal.returns-in-69
 returns-in-69 c =
@@ -37,5 +37,5 @@ returns-in-69 c =
 pub returns-in_default : goal.returns-in_default
 returns-in_default c =
     let a = c.args in
-    step_is _ a.t a.roll.now a.at a.table.now
-    (at_other a.roll.now a.at (omega arith) (omega arith) (omega arith) (omega arith))
+    rw c.at.ensures
+    (step_is _ a.t a.roll.now a.at a.table.now (at_other a.roll.now a.at (omega arith) (omega arith) (omega arith) (omega arith)))

@@ -8,7 +8,7 @@ pub loop-k-init : goal.loop-k-init
 loop-k-init c = put-none _ _ _ _ c.requires.marks_len
 
 pub number_of-requires-clause-within : goal.number_of-requires-clause-within
-number_of-requires-clause-within c = stick-in _ _ (put-stick c.requires.has_sticks c.loop-k.invariant).stick
+number_of-requires-clause-within c = stick-in _ _ (put-stick c.requires.has_sticks c.loop-k.invariant)
 
 pub overflow_cast-marks : goal.overflow_cast-marks
 overflow_cast-marks c = omega (arith, c.number_of.ensures, put-number c.requires.has_sticks c.loop-k.invariant)

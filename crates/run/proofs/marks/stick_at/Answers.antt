@@ -21,7 +21,7 @@ stick_after-requires c =
     let found = c.in-Some.ensures.lookup in
     let room : (a.p + a.h) / 64 < length a.marks.now = grind (arith, common_steps, gets, found) in
     let mark : c.in-Some.field-0.now ≡ get_or a.marks.now ((a.p + a.h) / 64) 0 = grind (arith, common_steps, gets, found) in
-    near-stick c.requires room (c.edge_at-near.ensures ∙ ap (edge_at a.size) mark)
+    near-stick c.requires room (c.edge_at-near.ensures ∙ ap (edge_at a.layer.size) mark)
 
 pub returns-in-Some : goal.returns-in-Some
 returns-in-Some c =
@@ -29,4 +29,4 @@ returns-in-Some c =
     let found = c.in-Some.ensures.lookup in
     let room : (a.p + a.h) / 64 < length a.marks.now = grind (arith, common_steps, gets, found) in
     let mark : c.in-Some.field-0.now ≡ get_or a.marks.now ((a.p + a.h) / 64) 0 = grind (arith, common_steps, gets, found) in
-    from-mark c.requires room (c.edge_at-near.ensures ∙ ap (edge_at a.size) mark) c.stick_after.ensures
+    from-mark c.requires room (c.edge_at-near.ensures ∙ ap (edge_at a.layer.size) mark) c.stick_after.ensures

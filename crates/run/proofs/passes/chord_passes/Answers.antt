@@ -1,7 +1,7 @@
 -- `chord_passes` meets its contract: it stops at the first of the three tests that fails.
 use mathlib.Core.Path.{◌≡◌, sym, ap, ◌∙◌}
 use mathlib.Core.Bool.{Bool, true, false, not, ◌&&◌}
-use Rattle.grid.specs.Layer.{layer_of}
+use Rattle.grid.specs.Plain.{plain}
 use Rattle.chord.specs.Crossing.{slides_within}
 use Rattle.chord.proofs.Tests.{stick-near}
 use Rattle.table.specs.Vertices.{is_pinned, offset_in, pinned_at, offset_at}
@@ -17,14 +17,14 @@ second c p q r = r ∙ sym (λ i. p i && (q ∙ r) i && c)
 
 pub crosses_stick-requires-clause-near_edge : goal.crosses_stick-requires-clause-near_edge
 crosses_stick-requires-clause-near_edge c =
-    let given = c.requires.lent_at in stick-near (layer_of c.args.size c.args.bitmap.now) given.sound c.args.u given.stick
+    let given = c.requires.lent_at in stick-near (plain c.args.layer) c.args.layer.sound c.args.u given.stick
 
 pub entry_at-entry-requires : goal.entry_at-entry-requires
 entry_at-entry-requires c = has-entry c.requires.lent_at
 
 pub slides_within-requires-clause-near_edge : goal.slides_within-requires-clause-near_edge
 slides_within-requires-clause-near_edge c =
-    let given = c.requires.lent_at in stick-near (layer_of c.args.size c.args.bitmap.now) given.sound c.args.u given.stick
+    let given = c.requires.lent_at in stick-near (plain c.args.layer) c.args.layer.sound c.args.u given.stick
 
 pub returns-then-slides_within : goal.returns-then-slides_within
 unfolding pinned_at offset_at

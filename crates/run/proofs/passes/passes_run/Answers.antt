@@ -22,7 +22,7 @@ loop-init c = tests-start c.args.t _ _ c.requires c.vertex_at-p.ensures.value c.
 pub chord_passes-requires-clause-lent_at : goal.chord_passes-requires-clause-lent_at
 chord_passes-requires-clause-lent_at c =
     let given = c.requires in
-    record { sound = given.sound; exact = given.exact; stick = on-next given.sound _ c.loop.invariant.stick c.next_stick-at.ensures }
+    record { sound = c.args.layer.sound; exact = given.exact; stick = on-next c.args.layer.sound _ c.loop.invariant.stick c.next_stick-at.ensures }
 
 pub returns-then-not-chord_passes : goal.returns-then-not-chord_passes
 returns-then-not-chord_passes c =
@@ -33,7 +33,7 @@ pub loop-preserved : goal.loop-preserved
 loop-preserved c =
     let one : c.args.n - (c.loop.counter + 1) ≡ c.args.n - c.loop.counter - 1 = omega arith in
     rw one
-    (tests-turn c.loop.invariant (omega (arith, c.loop-test.true)) c.next_stick-at.ensures c.requires.sound
+    (tests-turn c.loop.invariant (omega (arith, c.loop-test.true)) c.next_stick-at.ensures c.args.layer.sound
     (sym c.chord_passes.ensures ∙ c.if-not-chord_passes.false))
 
 pub returns : goal.returns

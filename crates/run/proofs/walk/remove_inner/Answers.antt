@@ -7,11 +7,11 @@ use Rattle.run.proofs.walk.remove_inner.Goals as goal
 pub remove-requires : goal.remove-requires
 remove-requires c =
     let given = c.requires in
-    has-entry (removals-lent c.loop.invariant given.sound c.next_stick-at.ensures given.exact)
+    has-entry (removals-lent c.loop.invariant c.args.layer.sound c.next_stick-at.ensures given.exact)
 
 pub loop-preserved : goal.loop-preserved
 unfolding offset_at
-loop-preserved c = removals-turn c.loop.invariant c.requires.sound c.next_stick-at.ensures c.loop-test.true c.remove.ensures
+loop-preserved c = removals-turn c.loop.invariant c.args.layer.sound c.next_stick-at.ensures c.loop-test.true c.remove.ensures
 
 pub returns : goal.returns
 returns c = removals-end c.loop.invariant c.loop-test.false

@@ -3,7 +3,7 @@ use mathlib.Core.Path.{ap, ◌∙◌}
 use Prim.Native.Nat.{◌+◌}
 use native.Mathlib.Omega.{arith}
 use lib.Seq.{sets}
-use Rattle.grid.specs.Layer.{layer_of}
+use Rattle.grid.specs.Plain.{plain}
 use Rattle.sheet.specs.Commands.{contour_command}
 use Rattle.sheet.specs.Written.{contour_vertices, contour_bytes}
 use Rattle.sheet.proofs.Stored.{sets-two, stored-length}
@@ -25,7 +25,7 @@ unfolding contour_bytes
 returns c =
     let vertices = c.put_vertices.ensures in
     let a = c.args in
-    let l = contour_vertices (layer_of a.size a.bitmap.now) a.table.now a.first in
+    let l = contour_vertices (plain a.layer) a.table.now a.first in
     let opened = c.put_bytes.ensures ∙ ap (sets a.sheet.now a.at) c.contour_command.ensures in
     record {
       bytes = sets-two (contour_command a.first) l a.sheet.now a.at (a.at + 6) opened vertices.bytes (omega arith);

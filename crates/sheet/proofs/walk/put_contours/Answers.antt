@@ -1,20 +1,25 @@
 -- `put_contours` meets its contract. The invariant: the contours that are left, stored from here on, give the whole.
-use Rattle.contour.proofs.Cursors.{here-stick}
-use Rattle.sheet.proofs.Contours.{contour-room, contours-turn, contours-end}
+use mathlib.Core.Path.{ap, ◌∙◌}
+use Rattle.contour.specs.Remaining.{firsts_left}
+use Rattle.contour.proofs.Firsts.{here-stick}
+use Rattle.sheet.proofs.Contours.{contours-start, contour-room, contours-turn, contours-end}
 use Rattle.sheet.proofs.walk.put_contours.Goals as goal
+
+pub loop-first-init : goal.loop-first-init
+loop-first-init c = contours-start (ap firsts_left c.into_iter-first-iterator.ensures.into_iter_gives ∙ c.firsts_of-first-items.ensures)
 
 pub put_contour-place-requires : goal.put_contour-place-requires
 put_contour-place-requires c =
-    let given = c.requires in
-    let set = given.first_set in
-    let more = c.loop-at-test.true in
-    let inv = c.loop-at.invariant in
-    record { lent_at = record { sound = given.lent.sound; exact = given.lent.exact; stick = here-stick set inv.placed more }; room = contour-room inv set more given.room }
+    let sound = c.args.contours.layer.sound in
+    let next = c.in-Some.ensures.steps in
+    let inv = c.loop-first.invariant in
+    record {
+      lent_at = record { sound = sound; exact = c.requires.lent.exact; stick = here-stick inv.firsts next sound };
+      room = contour-room inv next c.requires.room;
+    }
 
-pub loop-at-preserved : goal.loop-at-preserved
-loop-at-preserved c =
-    contours-turn c.loop-at.invariant c.put_contour-place.ensures c.next_contour-at.ensures
+pub loop-first-preserved : goal.loop-first-preserved
+loop-first-preserved c = contours-turn c.loop-first.invariant c.in-Some.ensures.steps c.put_contour-place.ensures
 
 pub returns : goal.returns
-returns c =
-    contours-end c.loop-at.invariant c.requires.first_set c.loop-at-test.false
+returns c = contours-end c.loop-first.invariant c.in-None.ensures.steps.0

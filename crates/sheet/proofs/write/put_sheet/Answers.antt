@@ -2,7 +2,7 @@
 use mathlib.Core.Path.{ap, ◌∙◌}
 use native.Mathlib.Omega.{arith}
 use lib.Seq.{sets}
-use Rattle.grid.specs.Layer.{layer_of}
+use Rattle.grid.specs.Plain.{plain}
 use Rattle.sheet.specs.Commands.{size_command, end_command}
 use Rattle.sheet.specs.Written.{all_contours, sheet_of}
 use Rattle.sheet.proofs.Stored.{stored-length, sets-three}
@@ -12,23 +12,23 @@ use Rattle.sheet.proofs.write.put_sheet.Goals as goal
 pub put_bytes-requires : goal.put_bytes-requires
 put_bytes-requires c =
     let a = c.args in
-    rw c.size_command.ensures (omega (arith, c.requires.room, sheet-parts (layer_of a.size a.bitmap.now) a.table.now))
+    rw c.size_command.ensures (omega (arith, c.requires.room, sheet-parts (plain a.contours.layer) a.table.now))
 
 pub put_contours-end-requires : goal.put_contours-end-requires
 put_contours-end-requires c =
     let a = c.args in
-    let L = layer_of a.size a.bitmap.now in
+    let L = plain a.contours.layer in
     let opened = c.put_bytes.ensures ∙ ap (sets a.sheet.now 0) c.size_command.ensures in
-    let same = stored-length a.sheet.now 0 (size_command a.size) opened in
-    record { lent = c.requires.lent; first_set = c.requires.first_set; room = omega (arith, c.requires.room, sheet-parts L a.table.now, same) }
+    let same = stored-length a.sheet.now 0 (size_command a.contours.layer.size) opened in
+    record { lent = c.requires.lent; room = omega (arith, c.requires.room, sheet-parts L a.table.now, same) }
 
 pub put_bytes-requires-2 : goal.put_bytes-requires-2
 put_bytes-requires-2 c =
     let a = c.args in
-    let L = layer_of a.size a.bitmap.now in
+    let L = plain a.contours.layer in
     let put = c.put_contours-end.ensures in
     let opened = c.put_bytes.ensures ∙ ap (sets a.sheet.now 0) c.size_command.ensures in
-    let same = stored-length a.sheet.now 0 (size_command a.size) opened in
+    let same = stored-length a.sheet.now 0 (size_command a.contours.layer.size) opened in
     let still = stored-length _ 5 (all_contours L a.table.now) put.bytes in
     omega (arith, c.requires.room, sheet-parts L a.table.now, put.after, same, still)
 
@@ -38,5 +38,5 @@ returns c =
     let a = c.args in
     let put = c.put_contours-end.ensures in
     let opened = c.put_bytes.ensures ∙ ap (sets a.sheet.now 0) c.size_command.ensures in
-    sets-three (size_command a.size) (all_contours (layer_of a.size a.bitmap.now) a.table.now) end_command a.sheet.now 0 5 _
+    sets-three (size_command a.contours.layer.size) (all_contours (plain a.contours.layer) a.table.now) end_command a.sheet.now 0 5 _
     opened put.bytes c.put_bytes-2.ensures (omega arith) put.after

@@ -2,7 +2,7 @@
 use Prim.Native.Nat.{◌≤◌}
 use native.Mathlib.Omega.{arith}
 use Rattle.arith.proofs.Ranges.{count-le}
-use Rattle.grid.specs.Layer.{layer_of}
+use Rattle.grid.specs.Plain.{plain}
 use Rattle.grid.specs.Edges.{edge_count, stick_at}
 use Rattle.grid.proofs.Numbers.{edges-small}
 use Rattle.sheet.proofs.write.sheet_length.Goals as goal
@@ -15,8 +15,8 @@ few-sticks c =
     omega (
       arith,
       c.stick_count.ensures,
-      count-le (stick_at (layer_of a.size a.bitmap.now)) (edge_count a.size),
-      edges-small a.size c.requires.sound.whole.sized,
+      count-le (stick_at (plain a.contours.layer)) (edge_count a.contours.layer.size),
+      edges-small a.contours.layer.size a.contours.layer.sound.whole.sized,
     )
 
 pub overflow_mul-result-2 : goal.overflow_mul-result-2

@@ -1,16 +1,14 @@
 -- `write_sheet` meets its contract.
 use mathlib.Core.Path.{sym, ◌∙◌}
-use Rattle.grid.specs.Layer.{layer_of, size_of}
+use Rattle.std.proofs.lemmas.Result.{err_from_is_err_and}
 use Rattle.bitset.proofs.Sets.{empty-set}
 use Rattle.sheet.proofs.Answered.{written-no}
 use Rattle.sheet.proofs.write.write_sheet.Goals as goal
 
-pub ask_held_firsts-answer-requires : goal.ask_held_firsts-answer-requires
-ask_held_firsts-answer-requires c = empty-set
+pub ask_held_firsts-requires : goal.ask_held_firsts-requires
+ask_held_firsts-requires c = empty-set
 
-pub returns-in-No : goal.returns-in-No
-returns-in-No c =
-    let a = c.args in
-    let L = layer_of (size_of a.w a.h) a.bitmap.now in
-    sym (written-no L a.table.now a.sheet.now c.in-No.q c.in-No.place
-    (sym c.ask_held_firsts-answer.ensures.value ∙ c.in-No.is))
+pub returns-in_err-ask_held_firsts : goal.returns-in_err-ask_held_firsts
+returns-in_err-ask_held_firsts c =
+    let exit = err_from_is_err_and c.from_residual.result c.from_residual.ensures.1 in
+    rw (exit.1, exit.2) (sym (written-no _ _ _ (sym c.ask_held_firsts.ensures.value ∙ c.in_err-ask_held_firsts.was)))

@@ -1,37 +1,34 @@
--- `simplify` meets its contract.
-use mathlib.Core.Path.{◌≡◌, ap, sym, ◌∙◌}
-use Rattle.grid.specs.Layer.{Layer, layer_of, size_of}
-use Rattle.grid.specs.Questions.{first_no}
-use Rattle.grid.specs.declared.question.Answer.TheVariants.{Yes}
+-- `simplify` meets its contract: by the answer to its questions.
+use mathlib.Core.Path.{sym, ap, ◌∙◌}
+use Rattle.std.proofs.lemmas.Result.{err_from_is_err_and}
 use Rattle.bitset.proofs.Sets.{empty-set}
-use Rattle.held.specs.Questions.{kept_questions}
 use Rattle.simplify.specs.Call.{finished}
 use Rattle.simplify.proofs.Outcomes.{outcome-is, yes-to-all}
 use Rattle.simplify.proofs.call.simplify.Goals as goal
 
-pub ask_kept_firsts-answer-requires : goal.ask_kept_firsts-answer-requires
-ask_kept_firsts-answer-requires c = empty-set
+pub ask_kept_firsts-requires : goal.ask_kept_firsts-requires
+ask_kept_firsts-requires c = empty-set
 
-pub simplify_contours-counts-requires : goal.simplify_contours-counts-requires
-simplify_contours-counts-requires c =
-    let layer : Layer =
-    layer_of (size_of c.args.w c.args.h) c.args.bitmap.now in
-    let all_yes : first_no (kept_questions ((layer_of (size_of c.args.w c.args.h) c.args.bitmap.now)) c.args.table.now) ≡ Yes =
-    sym c.ask_kept_firsts-answer.ensures.value ∙ c.in-Yes.is in
-    let accepted = (yes-to-all layer c.args.table.now all_yes).0 in
-    record { lent = record { sound = accepted.sound; exact = accepted.exact }; first_set = c.ask_kept_firsts-answer.ensures.first_set c.in-Yes.is }
+pub returns-in_err-ask_kept_firsts : goal.returns-in_err-ask_kept_firsts
+returns-in_err-ask_kept_firsts c =
+    let exit = err_from_is_err_and c.from_residual.result c.from_residual.ensures.1 in
+    rw (exit.1, exit.2)
+    (sym (outcome-is _ c.args.table.now c.args.t _ (sym c.ask_kept_firsts.ensures.value ∙ c.in_err-ask_kept_firsts.was)))
 
-pub returns-in-Yes : goal.returns-in-Yes
-returns-in-Yes c =
-    let layer : Layer =
-    layer_of (size_of c.args.w c.args.h) c.args.bitmap.now in
-    let all_yes : first_no (kept_questions ((layer_of (size_of c.args.w c.args.h) c.args.bitmap.now)) c.args.table.now) ≡ Yes =
-    sym c.ask_kept_firsts-answer.ensures.value ∙ c.in-Yes.is in
-    ap finished c.simplify_contours-counts.ensures ∙ sym (outcome-is layer c.args.table.now c.args.t _ all_yes)
+pub invariant_of-layer : goal.invariant_of-layer
+invariant_of-layer c =
+    let accepted = (yes-to-all _ c.args.table.now (sym c.ask_kept_firsts.ensures.value ∙ c.in_ok-ask_kept_firsts.was)).0 in
+    record { sound = accepted.sound }
 
-pub returns-in-No : goal.returns-in-No
-returns-in-No c =
-    let layer : Layer =
-    layer_of (size_of c.args.w c.args.h) c.args.bitmap.now in
-    sym (outcome-is layer c.args.table.now c.args.t _
-    (sym c.ask_kept_firsts-answer.ensures.value ∙ c.in-No.is))
+pub invariant_of-contours : goal.invariant_of-contours
+invariant_of-contours c = record { first_set = c.ask_kept_firsts.ensures.first_set c.in_ok-ask_kept_firsts.was }
+
+pub simplify_contours-requires : goal.simplify_contours-requires
+simplify_contours-requires c =
+    let accepted = (yes-to-all _ c.args.table.now (sym c.ask_kept_firsts.ensures.value ∙ c.in_ok-ask_kept_firsts.was)).0 in
+    record { sound = accepted.sound; exact = accepted.exact }
+
+pub returns : goal.returns
+returns c =
+    let all_yes = sym c.ask_kept_firsts.ensures.value ∙ c.in_ok-ask_kept_firsts.was in
+    ap finished c.simplify_contours.ensures ∙ sym (outcome-is _ c.args.table.now c.args.t _ all_yes)

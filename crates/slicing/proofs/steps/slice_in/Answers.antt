@@ -15,29 +15,21 @@ pub write-requires : goal.write-requires
 write-requires c =
     let a = c.args in
     let L = layer_of (size_of a.w a.h) a.bitmap.now in
-    let done =
-    traced-done L c.trace-traced.new.table c.trace-traced.result (trace_of L a.table.now) c.trace-traced.ensures
-    c.in-Done.is in
-    let after =
-    after-done L a.table.now c.trace-traced.new.table c.refine.new.table done c.refine.ensures
-    c.requires.fits in
+    let done = traced-done L c.trace.new.table c.trace.result (trace_of L a.table.now) c.trace.ensures c.in_default.is in
+    let after = after-done L a.table.now c.trace.new.table c.refine.new.table done c.refine.ensures c.requires.fits in
     record { held = after.0; room = omega (arith, after.1, c.requires.room) }
 
-pub returns-in-Done : goal.returns-in-Done
-returns-in-Done c =
+pub returns : goal.returns
+returns c =
     let a = c.args in
     let L = layer_of (size_of a.w a.h) a.bitmap.now in
     c.write.ensures
     ∙ ap (λ (t : List ℕ). stored a.output.now (sheet_of L t)) c.refine.ensures
-    ∙ ap (stored a.output.now)
-    (bytes-done L c.trace-traced.new.table c.trace-traced.result (trace_of L a.table.now) c.trace-traced.ensures
-    c.in-Done.is)
+    ∙ ap (stored a.output.now) (bytes-done L c.trace.new.table c.trace.result (trace_of L a.table.now) c.trace.ensures c.in_default.is)
 
-pub returns-in-Refused : goal.returns-in-Refused
-returns-in-Refused c =
+pub returns-in-Err : goal.returns-in-Err
+returns-in-Err c =
     let a = c.args in
     let L = layer_of (size_of a.w a.h) a.bitmap.now in
     c.refuse.ensures
-    ∙ ap (stored a.output.now)
-    (bytes-refused L c.trace-traced.new.table c.trace-traced.result (trace_of L a.table.now) c.trace-traced.ensures
-    c.in-Refused.question c.in-Refused.field-1 c.in-Refused.is)
+    ∙ ap (stored a.output.now) (bytes-refused L c.trace.new.table c.trace.result (trace_of L a.table.now) c.trace.ensures c.in-Err.is)

@@ -1,16 +1,11 @@
 -- `write` meets its contract: nothing is refused there.
-use Rattle.grid.specs.Layer.{layer_of, size_of}
-use Rattle.slicing.proofs.Answers.{written_is, written-never}
+use mathlib.Core.Path.{ap, ◌∙◌}
+use Prim.Native.Nat.{ℕ}
+use Rattle.slicing.specs.Slice.{outcome}
+use Rattle.slicing.proofs.Answers.{written_is}
 use Rattle.slicing.proofs.steps.write.Goals as goal
 
-pub returns-in-Done : goal.returns-in-Done
-returns-in-Done c =
-    let a = c.args in
-    written_is (layer_of (size_of a.w a.h) a.bitmap.now) a.table.now a.output.now _
-    c.write_sheet-written.result c.requires.held c.requires.room c.write_sheet-written.ensures c.in-Done.n c.in-Done.is
-
-pub returns-in-Refused : goal.returns-in-Refused
-returns-in-Refused c =
-    let a = c.args in
-    absurd (written-never (layer_of (size_of a.w a.h) a.bitmap.now) a.table.now a.output.now _
-    c.write_sheet-written.result c.requires.held c.requires.room c.write_sheet-written.ensures c.in-Refused.field-0 c.in-Refused.field-1 c.in-Refused.is)
+pub returns : goal.returns
+returns c =
+    ap (λ (n : ℕ). outcome n c.write_sheet.new.sheet) c.unwrap_or.ensures
+    ∙ written_is _ c.args.table.now c.args.output.now c.requires.held c.requires.room c.write_sheet.result c.write_sheet.ensures

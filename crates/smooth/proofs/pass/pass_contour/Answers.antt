@@ -11,7 +11,7 @@ pub number_of-start-requires : goal.number_of-start-requires
 number_of-start-requires c = let entry = has-entry (lent-first c.requires) in record { sized = entry.sized; within = entry.in-grid }
 
 pub previous_stick-requires : goal.previous_stick-requires
-previous_stick-requires c = record { sound = c.requires.table.sound; stick = c.requires.stick }
+previous_stick-requires c = record { stick = c.requires.stick }
 
 pub vertex_at-p-requires : goal.vertex_at-p-requires
 vertex_at-p-requires c = has-entry (lent-previous (lent-first c.requires) c.previous_stick.ensures)
@@ -24,7 +24,7 @@ loop-at-init c =
 
 pub next_stick-next-requires : goal.next_stick-next-requires
 next_stick-next-requires c =
-    let here = visits-here c.requires.table.sound c.loop-at.invariant in record { sound = here.sound; stick = here.stick }
+    let here = visits-here c.requires.table.sound c.loop-at.invariant in record { stick = here.stick }
 
 pub number_of-after-requires : goal.number_of-after-requires
 number_of-after-requires c =
@@ -101,7 +101,7 @@ shape_of-table c =
     let q = c.position_of-q.ensures in
     let ahead = next-vertex c.loop-at.table c.next_stick-next.ensures c.number_of-after.ensures c.offset_of.ensures q.value q.near in
     let given = c.requires.table in
-    (visited-kept given.sound c.loop-at.invariant ahead c.visit-moved.ensures).whole ∙ sym given.exact
+    (visited-kept c.args.layer.sound c.loop-at.invariant ahead c.visit-moved.ensures).whole ∙ sym given.exact
 
 pub returns : goal.returns
 returns c =

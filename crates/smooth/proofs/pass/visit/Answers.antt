@@ -21,5 +21,5 @@ returns c =
     let old = c.offset_of-old.ensures in
     visited-slides (sym c.has_pin.ensures ∙ c.if-has_pin.false)
     (c.new_offset-new.ensures ∙ ap (new_offset a.p a.q a.e) old)
-    (c.from.ensures ∙ c.abs_diff.ensures ∙ ap (λ (n : ℕ). distance n c.new_offset-new.result) old)
-    (ap (set a.table.now a.at) c.encoded_of.ensures)
+    (c.from-2.ensures ∙ c.abs_diff.ensures ∙ ap (λ (n : ℕ). distance n c.new_offset-new.result) old)
+    (ap (set a.table.now a.at) c.from.ensures)
