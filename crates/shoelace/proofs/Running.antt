@@ -19,7 +19,7 @@ use Rattle.grid.specs.Layer.{Layer, bit}
 use Rattle.grid.specs.Edges.{number, is_stick, stick_in, edge_at, edge_columns, edge_rows, edge_count, kind_start, row_start, StickBits}
 use Rattle.grid.specs.declared.layer.Size.{Size}
 use Rattle.grid.specs.declared.edge.Edge.{Edge}
-use Rattle.grid.proofs.Numbers.{number-below, edge_at-number, edge_at-row, columns-narrow, edges-small, edges-split}
+use Rattle.grid.proofs.Numbers.{number-below, edge_at-number, edge_at-row, edges-small, edges-split}
 use Rattle.step.proofs.Walks.{stick-within}
 use Rattle.contour.specs.Walk.{numbered}
 use Rattle.contour.specs.Contours.{walk_of, sticks_by_number}
@@ -217,9 +217,6 @@ module _ {L : Layer} {t : List ℕ} {v : Bool} {r at : ℕ} where
 
       column : c + z < edge_columns L.size v
       column = (stick-within L run.onward.below.accepted.sound next_stick found.1).column_below
-
-      pub byte-room : (c + z < 8 * at + 8) × (c + z < 1024)
-      byte-room = (found.0, omega (arith, column, columns-narrow L.size run.onward.below.accepted.sound.whole.sized v))
 
       to-stick : Onward L t p s (number L.size next_stick) u
       to-stick =
