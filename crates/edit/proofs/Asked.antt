@@ -10,13 +10,12 @@ use lib.Dec.{leb}
 use Rattle.arith.proofs.Booleans.{both-sides, and_split}
 use Rattle.arith.specs.Lists.{among}
 use Rattle.grid.specs.Layer.{Layer}
-use Rattle.grid.specs.Questions.{first_no}
+use Rattle.grid.specs.Questions.{first_no, Answer, Yes, No}
 use Rattle.grid.specs.Edges.{in_grid}
 use Rattle.grid.specs.declared.layer.Size.{Size}
 use Rattle.grid.specs.declared.edge.Edge.{Edge}
 use Rattle.grid.specs.declared.refusal.Refusal.{Refusal}
 use Rattle.grid.specs.declared.refusal.Refusal.TheVariants.{NoKeptVertex, VertexPinned, BadOffset, NoCrossing, BeyondTolerance, TooFewKept}
-use Rattle.grid.specs.Questions.{Answer, Yes, No}
 use Rattle.grid.proofs.Answers.{no-not-yes}
 use Rattle.contour.specs.Contours.{walk_of, contour_of}
 use Rattle.contour.proofs.Orbit.{same_false}

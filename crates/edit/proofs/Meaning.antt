@@ -10,9 +10,8 @@ use borrow.Author.Tests.{leb-true, le-leb}
 use Rattle.arith.proofs.Booleans.{and_split}
 use Rattle.arith.specs.Lists.{among}
 use Rattle.grid.specs.Layer.{Layer}
-use Rattle.grid.specs.Questions.{Sound}
+use Rattle.grid.specs.Questions.{Sound, Yes}
 use Rattle.grid.specs.declared.edge.Edge.{Edge}
-use Rattle.grid.specs.Questions.{Yes}
 use Rattle.contour.specs.Contours.{contour_of}
 use Rattle.chord.specs.Points.{Position, Crosses, MeetsWithin}
 use Rattle.chord.specs.Crossing.{crosses, slides_within}

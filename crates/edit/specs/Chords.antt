@@ -3,11 +3,10 @@ use Rattle.std.specs.Prelude.{◌≡◌, Bool, true, not, ◌&&◌, List, [], �
 use Rattle.arith.specs.Lists.{each}
 use Rattle.grid.specs.Layer.{Layer}
 use Rattle.grid.specs.Edges.{in_grid, number, edge_count}
-use Rattle.grid.specs.Questions.{first_no, if_all_yes, Sized}
+use Rattle.grid.specs.Questions.{first_no, if_all_yes, Sized, Answer}
 use Rattle.grid.specs.declared.layer.Size.{Size}
 use Rattle.grid.specs.declared.edge.Edge.{Edge}
 use Rattle.grid.specs.declared.refusal.Refusal.TheVariants.{NoCrossing, BeyondTolerance}
-use Rattle.grid.specs.Questions.{Answer}
 use Rattle.step.specs.Walk.{following}
 use Rattle.contour.specs.Contours.{same_edge}
 use Rattle.chord.specs.Points.{Position}

@@ -4,10 +4,9 @@ use Rattle.std.specs.Prelude.{Bool, cond, not, ◌&&◌, List, [], ◌∷◌, �
 use Rattle.arith.specs.Lists.{each, among}
 use Rattle.grid.specs.Layer.{Layer}
 use Rattle.grid.specs.Edges.{in_grid}
-use Rattle.grid.specs.Questions.{first_no}
+use Rattle.grid.specs.Questions.{first_no, Answer, Yes, No}
 use Rattle.grid.specs.declared.edge.Edge.{Edge}
 use Rattle.grid.specs.declared.refusal.Refusal.{Refusal}
-use Rattle.grid.specs.Questions.{Answer, Yes, No}
 use Rattle.contour.specs.Contours.{contour_of}
 use Rattle.chord.specs.Crossing.{slides_within}
 use Rattle.table.specs.Vertices.{kept_at, pinned_at, offset_at}

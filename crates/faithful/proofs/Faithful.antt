@@ -8,9 +8,8 @@ use Prim.Native.Nat.{ℕ}
 use Rattle.arith.proofs.Booleans.{xor_self}
 use Rattle.grid.specs.Layer.{Layer}
 use Rattle.grid.specs.Edges.{in_grid, first_end, second_end, is_stick}
-use Rattle.grid.specs.Questions.{first_no}
+use Rattle.grid.specs.Questions.{first_no, Yes}
 use Rattle.grid.specs.declared.edge.Edge.{Edge}
-use Rattle.grid.specs.Questions.{Yes}
 use Rattle.drawn.proofs.Vertices.{vertices-of, no-vertices-of}
 use Rattle.held.specs.Questions.{held_questions, Accepted}
 use Rattle.held.proofs.HeldFacts.{held_of}
