@@ -13,7 +13,9 @@ use Rattle.step.specs.Walk.{next}
 use Rattle.step.proofs.Walks.{next-stick}
 use Rattle.step.proofs.Following.{TestsLeft}
 use Rattle.chord.specs.Points.{Position}
-use Rattle.table.specs.Vertices.{removed_at, offset_at}
+use Rattle.chord.specs.Crossing.{slides_within}
+use Rattle.table.specs.declared.entry.Entry.{Entry}
+use Rattle.table.specs.Vertices.{entry_at, offset_in, removed_at, offset_at}
 use Rattle.drawn.specs.Neighbours.{removed_from, next_kept}
 use Rattle.drawn.proofs.Gaps.{gap-over, gap_here}
 use Rattle.drawn.specs.Drawn.{vertex, edge_crosses}
@@ -27,6 +29,13 @@ pub within-start : (L : Layer) (t : List ℕ) (tolerance : ℕ) (p q : Position)
     → TestsLeft L (slides_at L t tolerance p q) (within_run L t tolerance p q e n) e n
 unfolding within_run
 within-start L t tolerance p q e n stick = record { stick = stick; same = refl }
+
+-- the test of a stick, by its entry and the offset in it
+pub slide-here : (L : Layer) (t : List ℕ) (tolerance : ℕ) (p q : Position) (e : Edge) {within : Bool} {offset : ℕ} {entry : Entry}
+    → within ≡ slides_within tolerance p q e offset → offset ≡ offset_in entry → entry ≡ entry_at L t e
+    → slides_at L t tolerance p q e ≡ within
+unfolding offset_at
+slide-here L t tolerance p q e w o is = sym (w ∙ ap (slides_within tolerance p q e) (o ∙ ap offset_in is))
 
 -- the same number of sticks left, counted in another way
 pub as-many : {L : Layer} {test : Edge → Bool} {answer : Bool} {at : Edge} {m n : ℕ} → TestsLeft L test answer at m → m ≡ n

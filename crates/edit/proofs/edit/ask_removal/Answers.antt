@@ -1,8 +1,6 @@
--- `ask_removal` meets its contract. `unpinned` is question 16 answered yes, from which the rest goes on.
-use mathlib.Core.Path.{◌≡◌, sym, ◌∙◌}
-use mathlib.Core.Bool.{true, true≢false}
-use Rattle.grid.specs.Plain.{plain}
-use Rattle.edit.specs.Edits.{may_move}
+-- `ask_removal` meets its contract. From question 16 answered yes (`unpinned-yes`) the rest goes on.
+use mathlib.Core.Path.{sym, ◌∙◌}
+use mathlib.Core.Bool.{true≢false}
 use Rattle.edit.proofs.Asked.{editable, pinned-no, unpinned-yes, removal-pinned, removal-missed, removal-far, removal-done, removal-third-left}
 use Rattle.edit.proofs.edit.ask_removal.Goals as goal
 
@@ -16,19 +14,15 @@ joined-over-requires c = editable c.requires c.edge_named-e.ensures
 
 pub returns-then-not-crosses_all : goal.returns-then-not-crosses_all
 returns-then-not-crosses_all c =
-    let unpinned : (let a = c.args in may_move (plain a.layer) a.table.now a.stick ≡ true) =
-    unpinned-yes _ _ c.args.stick c.carries_pin-pinned.ensures c.if-pinned.false in
     rw c.at-then-not-crosses_all.ensures
-    (removal-missed c.args.t c.args.place c.requires unpinned c.edge_named-e.ensures
-    c.joined-over.ensures.value (sym c.crosses_all.ensures ∙ c.if-not-crosses_all.true))
+    (removal-missed c.args.t c.args.place c.requires (unpinned-yes _ _ c.args.stick c.carries_pin-pinned.ensures c.if-pinned.false)
+    c.edge_named-e.ensures c.joined-over.ensures.value (sym c.crosses_all.ensures ∙ c.if-not-crosses_all.true))
 
 pub returns-then-not-within_all : goal.returns-then-not-within_all
 returns-then-not-within_all c =
-    let unpinned : (let a = c.args in may_move (plain a.layer) a.table.now a.stick ≡ true) =
-    unpinned-yes _ _ c.args.stick c.carries_pin-pinned.ensures c.if-pinned.false in
     rw c.at-then-not-within_all.ensures
-    (removal-far c.args.t c.args.place c.requires unpinned c.edge_named-e.ensures
-    c.joined-over.ensures.value (sym c.crosses_all.ensures ∙ c.if-not-crosses_all.false)
+    (removal-far c.args.t c.args.place c.requires (unpinned-yes _ _ c.args.stick c.carries_pin-pinned.ensures c.if-pinned.false)
+    c.edge_named-e.ensures c.joined-over.ensures.value (sym c.crosses_all.ensures ∙ c.if-not-crosses_all.false)
     (sym c.within_all.ensures ∙ c.if-not-within_all.true))
 
 pub leaves_three-requires : goal.leaves_three-requires
@@ -38,17 +32,13 @@ leaves_three-requires c =
 -- after a yes to question 11 there are three left
 pub returns-then-not-leaves_three : goal.returns-then-not-leaves_three
 returns-then-not-leaves_three c =
-    let unpinned : (let a = c.args in may_move (plain a.layer) a.table.now a.stick ≡ true) =
-    unpinned-yes _ _ c.args.stick c.carries_pin-pinned.ensures c.if-pinned.false in
     let left =
-    removal-third-left c.args.t c.args.place c.requires unpinned c.edge_named-e.ensures
-    c.joined-over.ensures.value (sym c.crosses_all.ensures ∙ c.if-not-crosses_all.false) in
+    removal-third-left c.args.t c.args.place c.requires (unpinned-yes _ _ c.args.stick c.carries_pin-pinned.ensures c.if-pinned.false)
+    c.edge_named-e.ensures c.joined-over.ensures.value (sym c.crosses_all.ensures ∙ c.if-not-crosses_all.false) in
     absurd (true≢false (sym left ∙ sym c.leaves_three.ensures ∙ c.if-not-leaves_three.true))
 
 pub returns : goal.returns
 returns c =
-    let unpinned : (let a = c.args in may_move (plain a.layer) a.table.now a.stick ≡ true) =
-    unpinned-yes _ _ c.args.stick c.carries_pin-pinned.ensures c.if-pinned.false in
-    removal-done c.args.t c.args.place c.requires unpinned c.edge_named-e.ensures
-    c.joined-over.ensures.value (sym c.crosses_all.ensures ∙ c.if-not-crosses_all.false)
+    removal-done c.args.t c.args.place c.requires (unpinned-yes _ _ c.args.stick c.carries_pin-pinned.ensures c.if-pinned.false)
+    c.edge_named-e.ensures c.joined-over.ensures.value (sym c.crosses_all.ensures ∙ c.if-not-crosses_all.false)
     (sym c.within_all.ensures ∙ c.if-not-within_all.false)
