@@ -1,16 +1,16 @@
 -- What the loop that measures all contours rests on: their numbers are stored one after the other.
-use mathlib.Core.Path.{◌≡◌, refl, ◌∙◌, ap}
-use mathlib.Core.List.{List, [], ◌∷◌, map}
-use Prim.Native.Nat.{ℕ, ◌+◌, ◌≤◌, ◌<◌}
+use mathlib.Core.Path.{◌≡◌, ap}
+use mathlib.Core.List.{List, ◌∷◌, map}
+use Prim.Native.Nat.{ℕ, ◌+◌}
 use native.Mathlib.Numerals.{add-one}
 use native.Mathlib.Omega.{arith}
 use lib.IntN.{ℤ}
-use lib.ListN.{length, set, length-set, length-map}
+use lib.ListN.{length, set}
 use lib.Seq.{sets}
 use Rattle.grid.specs.Layer.{Layer}
 use Rattle.grid.specs.declared.edge.Edge.{Edge}
 use Rattle.contour.specs.Contours.{first_sticks}
-use Rattle.contour.proofs.Firsts.{FirstsLeft, firsts-start, firsts-turn, here-stick}
+use Rattle.contour.proofs.Firsts.{FirstsLeft, firsts-turn, here-stick}
 use Rattle.held.specs.Questions.{Accepted}
 use Rattle.shoelace.specs.Adds.{HeldStick}
 use Rattle.area.specs.Areas.{twice_area, areas_of}
@@ -23,40 +23,20 @@ areas_along L t l = map (twice_area L t) l
 pub record PartMeasured (L : Layer) (t : List ℕ) (found buffer : List ℤ) (place : ℕ) (left : List Edge) : Type 0 where
   pub firsts : FirstsLeft L left
   pub stored : sets buffer place (areas_along L t left) ≡ sets found 0 (areas_of L t)
-  pub same_length : length buffer ≡ length found
   pub counted : place + length left ≡ length (first_sticks L)
 
 module _ {L : Layer} {t : List ℕ} {found : List ℤ} {left : List Edge} where
-  pub measured-start : left ≡ first_sticks L → PartMeasured L t found found 0 left
-  measured-start all =
-      record { firsts = firsts-start L all; stored = rw all refl; same_length = refl; counted = rw all (omega arith) }
-
   module _ {buffer : List ℤ} {place : ℕ} (part : PartMeasured L t found buffer place left) where
     module _ {f : Edge} {left' : List Edge} (next : left ≡ f ∷ left') where
       pub measured-held : Accepted L t → HeldStick L t f
       measured-held accepted = record { accepted = accepted; stick = here-stick part.firsts next accepted.sound }
 
-      pub measured-room : length (areas_of L t) ≤ length found → place < length buffer
-      measured-room room =
-          omega (
-            arith,
-            part.counted,
-            part.same_length,
-            room,
-            length-map (first_sticks L) (twice_area L t),
-            ap (λ (l : List Edge). length l) next,
-          )
-
       -- `number` is the number as it is stored
-      pub measured-turn : {number : ℤ} {place' : ℕ} → number ≡ twice_area L t f → place' ≡ place + 1
-          → PartMeasured L t found (set buffer place number) place' left'
-      measured-turn {number} {place'} number_is place_is =
+      pub measured-turn : {number : ℤ} {at place' : ℕ} → at ≡ place → place' ≡ place + 1 → number ≡ twice_area L t f
+          → PartMeasured L t found (set buffer at number) place' left'
+      measured-turn {number} {at} {place'} at_is place_is number_is =
           record {
             firsts = firsts-turn part.firsts next;
-            stored = rw (place_is, add-one place, number_is) (rw next at part.stored);
-            same_length = length-set buffer place number ∙ part.same_length;
+            stored = rw (at_is, place_is, add-one place, number_is) (rw next at part.stored);
             counted = omega (arith, place_is, part.counted, ap (λ (l : List Edge). length l) next);
           }
-
-    pub measured-end : left ≡ [] → buffer ≡ sets found 0 (areas_of L t)
-    measured-end over = rw over at part.stored

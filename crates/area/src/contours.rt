@@ -14,9 +14,7 @@ pub fn put_areas(contours: ContourSet, table: &[u16], areas: &mut [i64])
     requires room { length (areas_of (plain contours.layer) table.now) ≤ length areas.old }
     ensures { areas.new ≡ sets areas.old 0 (areas_of (plain contours.entry.layer) table.now) }
 {
-    let mut place: usize = 0;
-    for first in firsts_of(contours) {
+    for (place, first) in firsts_of(contours).enumerate() {
         areas[place] = contour_area(contours.layer, table, first);
-        place += 1;
     }
 }

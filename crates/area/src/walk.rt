@@ -39,13 +39,10 @@ impl Walked {
             return;
         }
         let here = position_of(e, offset_in(entry));
-        match self.trail {
+        match &mut self.trail {
             Some(trail) => {
                 self.area += cross_of(trail.last, here);
-                self.trail = Some(Trail {
-                    begin: trail.begin,
-                    last: here,
-                });
+                trail.last = here;
             }
             None => self.trail = Some(Trail {
                 begin: here,

@@ -156,8 +156,8 @@ module _ (f : ℕ → Bool) (n : ℕ) where
   unfolding least_of
   some-is k e s = both-sides (ltb (least f n) n)
       (λ t. let found : Some k ≡ Some (least f n) = sym s ∙ e ∙ rw t in
-            let same : k ≡ least f n = cc in
-            (same, omega (arith, same, ltb-true (least f n) n t)))
+      let same : k ≡ least f n = cc in
+      (same, omega (arith, same, ltb-true (least f n) n t)))
       (λ t. let none : ◌≡◌ {A = Option ℕ} (Some k) None = sym s ∙ e ∙ rw t in absurd cc)
 
   pub found : {x : Option ℕ} {k : ℕ} → x ≡ least_of f n → x ≡ Some k → Found k
@@ -174,7 +174,6 @@ module _ (f : ℕ → Bool) (n : ℕ) where
   none-found e s j l = both-sides (ltb (least f n) n)
       (λ t. let some : ◌≡◌ {A = Option ℕ} None (Some (least f n)) = sym s ∙ e ∙ rw t in absurd cc)
       (λ t. least_from-below f 0 n j (omega arith) (omega (arith, ltb-false (least f n) n t)))
-
 
 -- Replacing a range
 

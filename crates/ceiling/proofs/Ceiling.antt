@@ -8,12 +8,11 @@ use Prim.Native.Nat.{ℕ, ◌+◌, ◌*◌}
 use native.Mathlib.Omega.{arith}
 use lib.ListN.{length}
 use Rattle.arith.specs.Levels.{total}
+use Rattle.std.specs.Prelude.{Err}
 use Rattle.grid.specs.Layer.{Layer}
 use Rattle.grid.specs.Edges.{edge_count, is_stick}
-use Rattle.grid.specs.Questions.{Sound, first_no}
+use Rattle.grid.specs.Questions.{Answer, Yes, Sound, first_no}
 use Rattle.grid.specs.declared.edge.Edge.{Edge}
-use Rattle.grid.specs.declared.question.Answer.{Answer}
-use Rattle.grid.specs.declared.question.Answer.TheVariants.{Yes, No}
 use Rattle.grid.proofs.Answers.{number-within, append-all}
 use Rattle.contour.specs.Walk.{first}
 use Rattle.contour.specs.Contours.{walk_of, contour_of, first_sticks}
@@ -42,7 +41,7 @@ module _ {L : Layer} (sound : Sound L) (tolerance : ℕ) where
 
   contour_exact : (t : List ℕ) (f : Edge) → first (walk_of L) f ≡ true
       → (alone L tolerance t f).tried + 2 * (alone L tolerance t f).removed + 2 ≡ 2 * length (contour_of L f)
-  contour_exact t f is = omega (arith, contour-counts L tolerance (record { sound = sound; stick = first-stick f is }) (begun t))
+  contour_exact t f is = omega (arith, contour-counts L tolerance sound f (first-stick f is) (begun t))
 
   -- The contours one after the other
 
@@ -74,8 +73,8 @@ module _ {L : Layer} (sound : Sound L) (tolerance : ℕ) where
 module _ (L : Layer) (tolerance : ℕ) (t : List ℕ) where
   by_answer : (answer : Answer) → first_no (kept_questions L t) ≡ answer → (simplify_of L tolerance t).refusal ≡ 0 → answer ≡ Yes
   by_answer Yes e done = refl
-  by_answer (No q place) e done =
-      absurd (omega (arith, number-within q, sym (ap (λ (o : Outcome). o.refusal) (outcome-is L t tolerance _ e)) ∙ done))
+  by_answer (Err refused) e done =
+      absurd (omega (arith, number-within refused.question, sym (ap (λ (o : Outcome). o.refusal) (outcome-is L t tolerance _ e)) ∙ done))
 
   pub ceiling : (simplify_of L tolerance t).refusal ≡ 0 → Ceiling L tolerance t
   ceiling done =

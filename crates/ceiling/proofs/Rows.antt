@@ -7,21 +7,21 @@ use native.Mathlib.Nat.{one-le-pow}
 use native.Mathlib.Omega.{arith}
 use lib.ListN.{length, take, drop, replicate, length-replicate}
 use lib.Pow.{shl_exact, pow_mono}
+use Rattle.std.specs.Prelude.{Result, Ok, Err}
 use Rattle.grid.specs.Layer.{Layer, layer_of, size_of}
+use Rattle.grid.specs.Questions.{Answer}
+use Rattle.grid.specs.declared.refusal.Refused.{Refused}
 use Rattle.trace.specs.Counts.{Figures, counts_of, figures_of}
 use Rattle.trace.specs.Trace as Trace
 use Rattle.trace.specs.Trace.{trace_of}
 use Rattle.trace.specs.declared.counting.Counted.{Counted}
-use Rattle.trace.specs.declared.tracing.Traced.{Traced}
 use Rattle.trace.proofs.Outcomes.{trace-leaves}
 use Rattle.roll.specs.Roll as Roll
-use Rattle.roll.specs.Roll.{roll_of}
-use Rattle.roll.specs.declared.rolling.Rolled.{Rolled}
+use Rattle.roll.specs.Roll.{Rolled, roll_of}
 use Rattle.roll.proofs.Held.{roll-leaves}
 use Rattle.simplify.specs.Call as Simplify
 use Rattle.simplify.specs.Call.{simplify_of}
-use Rattle.simplify.specs.declared.call.Simplified.{Simplified}
-use Rattle.simplify.specs.declared.call.Simplified.TheVariants.{Done, Refused}
+use Rattle.simplify.specs.declared.tries.RunCounts.{RunCounts}
 use Rattle.ceiling.specs.Ceiling.{contour_ceiling}
 use Rattle.ceiling.specs.Reached.{samples_byte, row_entries, longest_roll, slide_roll, ReachesCeiling, line_after, row_line, ceiling_line}
 use Rattle.ceiling.specs.declared.Line.{Line}
@@ -32,12 +32,12 @@ abbrev row_of : ℕ → ℕ → Layer
 row_of samples byte = layer_of (size_of (samples + 2) 3) (0 ∷ byte ∷ 0 ∷ [])
 
 -- the runs tried are the same figure whatever the table
-same-tried : (r : Simplified) (u : List ℕ) → (Simplify.outcome r []).tried ≡ (Simplify.outcome r u).tried
-same-tried (Done removed tried) u = refl
-same-tried (Refused q place) u = refl
+same-tried : (r : Result RunCounts Refused) (u : List ℕ) → (Simplify.outcome r []).tried ≡ (Simplify.outcome r u).tried
+same-tried (Ok counts) u = refl
+same-tried (Err e) u = refl
 
 -- t is the table at first, and t₁, t₂ and t₃ those after Trace, Roll and Simplify
-pub line-is : (L : Layer) (roll t t₁ t₂ t₃ : List ℕ) (c : Counted) (a : Traced) (b : Rolled) (r : Simplified) {vertices tried : ℕ}
+pub line-is : (L : Layer) (roll t t₁ t₂ t₃ : List ℕ) (c : Result Counted Refused) (a : Answer) (b : Rolled) (r : Result RunCounts Refused) {vertices tried : ℕ}
     → figures_of c ≡ counts_of L (length t) → Trace.outcome a t₁ ≡ trace_of L t → Roll.outcome b t₂ ≡ roll_of L 0 roll t₁
     → Simplify.outcome r t₃ ≡ simplify_of L 0 t₂ → vertices ≡ (figures_of c).sticks → tried ≡ (Simplify.outcome r []).tried
     → record { vertices = vertices; tried = tried } ≡ line_after L roll t

@@ -2,8 +2,7 @@
 -- needed, that reaches the ceiling at T 0." proofs/Reached.antt has the theorem, by running the calls' definitions.
 use Rattle.std.specs.Prelude.{◌≡◌, List, [], ◌∷◌, ◌++◌, map, ℕ, ◌+◌, ◌-◌, ◌*◌, ◌/◌, ◌^◌, length, drop, replicate}
 use Rattle.grid.specs.Layer.{Layer, layer_of, size_of}
-use Rattle.grid.specs.Questions.{first_no}
-use Rattle.grid.specs.declared.question.Answer.TheVariants.{Yes}
+use Rattle.grid.specs.Questions.{Yes, first_no}
 use Rattle.mask.specs.Counts.{stick_count}
 use Rattle.contour.specs.Contours.{contours_of, contour_count}
 use Rattle.held.specs.Questions.{kept_questions}

@@ -8,7 +8,8 @@ ghost use Rattle.trace.specs.Counts.{figures_of};
 ghost use Rattle.simplify.specs.Call.{outcome};
 ghost use Rattle.ceiling.specs.Reached.{samples_byte, line_after, row_line, ceiling_line};
 
-use simplify::Simplified;
+use grid::Refused;
+use simplify::RunCounts;
 use std::io;
 use trace::Counted;
 
@@ -24,22 +25,22 @@ pub struct Line {
 }
 
 // The sticks that Counts answers, each with a vertex; 0 where it is refused.
-fn sticks_counted(answer: Counted) -> usize
+fn sticks_counted(answer: Result<Counted, Refused>) -> usize
     ensures { result ≡ (figures_of answer).sticks }
 {
     match answer {
-        Counted::Done { sticks, .. } => sticks,
-        Counted::Refused(..) => 0,
+        Ok(counts) => counts.sticks,
+        Err(_) => 0,
     }
 }
 
 // The runs that Simplify tried; 0 where it is refused.
-fn runs_tried(answer: Simplified) -> usize
+fn runs_tried(answer: Result<RunCounts, Refused>) -> usize
     ensures { result ≡ (outcome answer []).tried }
 {
     match answer {
-        Simplified::Done { tried, .. } => tried,
-        Simplified::Refused(..) => 0,
+        Ok(counts) => counts.tried,
+        Err(_) => 0,
     }
 }
 
@@ -50,8 +51,8 @@ fn line_after(w: u16, bitmap: &[u8], table: &mut [u16], commands: &[u8]) -> Line
 {
     let counted = trace::counts(w, 3, bitmap, table);
     let vertices = sticks_counted(counted);
-    trace::trace(w, 3, bitmap, table);
-    roll::roll(w, 3, bitmap, table, commands, 0);
+    let _ = trace::trace(w, 3, bitmap, table);
+    let _ = roll::roll(w, 3, bitmap, table, commands, 0);
     let simplified = simplify::simplify(w, 3, bitmap, table, 0);
     let tried = runs_tried(simplified);
     Line { vertices, tried }

@@ -10,7 +10,7 @@ use Rattle.grid.specs.Layer.{Layer}
 use Rattle.grid.specs.Edges.{in_grid, first_end, second_end, is_stick}
 use Rattle.grid.specs.Questions.{first_no}
 use Rattle.grid.specs.declared.edge.Edge.{Edge}
-use Rattle.grid.specs.declared.question.Answer.TheVariants.{Yes}
+use Rattle.grid.specs.Questions.{Yes}
 use Rattle.drawn.proofs.Vertices.{vertices-of, no-vertices-of}
 use Rattle.held.specs.Questions.{held_questions, Accepted}
 use Rattle.held.proofs.HeldFacts.{held_of}

@@ -4,15 +4,14 @@ use mathlib.Core.Path.{◌≡◌, sym, ◌∙◌}
 use mathlib.Core.List.{List}
 use Prim.Native.Nat.{ℕ}
 use Rattle.grid.specs.Layer.{Layer}
+use Rattle.grid.specs.Questions.{Answer, Yes}
 use Rattle.trace.specs.Trace as Trace
-use Rattle.trace.specs.declared.tracing.Traced.{Traced}
 use Rattle.reading.specs.Reading as Reading
-use Rattle.reading.specs.declared.read.SheetRead.{SheetRead}
 
 module _ (L : Layer) (t u : List ℕ) where
-  pub trace-accepts : {r : Traced} → Trace.outcome r u ≡ Trace.trace_of L t → r ≡ Traced.Done → (Trace.trace_of L t).refusal ≡ 0
+  pub trace-accepts : {r : Answer} → Trace.outcome r u ≡ Trace.trace_of L t → r ≡ Yes → (Trace.trace_of L t).refusal ≡ 0
   trace-accepts promised done = (λ i. (sym promised i).refusal) ∙ (λ i. (Trace.outcome (done i) u).refusal)
 
-  pub read-accepts : (sheet : List ℕ) {r : SheetRead} → Reading.outcome r u ≡ Reading.read_of L t sheet → r ≡ SheetRead.Done
+  pub read-accepts : (sheet : List ℕ) {r : Answer} → Reading.outcome r u ≡ Reading.read_of L t sheet → r ≡ Yes
       → (Reading.read_of L t sheet).refusal ≡ 0
   read-accepts sheet promised done = (λ i. (sym promised i).refusal) ∙ (λ i. (Reading.outcome (done i) u).refusal)

@@ -4,10 +4,9 @@ use mathlib.Core.Path.{◌≡◌, refl}
 use mathlib.Core.List.{List}
 use Prim.Native.Nat.{ℕ}
 use lib.ListN.{length}
+use Rattle.std.specs.Prelude.{Err}
 use Rattle.grid.specs.Layer.{Layer}
-use Rattle.grid.specs.Questions.{first_no}
-use Rattle.grid.specs.declared.question.Answer.{Answer}
-use Rattle.grid.specs.declared.question.Answer.TheVariants.{Yes, No}
+use Rattle.grid.specs.Questions.{Answer, Yes, first_no}
 use Rattle.table.specs.Entries.{length_questions}
 use Rattle.table.proofs.Lengths.{lengths-of}
 use Rattle.held.specs.Questions.{Accepted}
@@ -25,4 +24,4 @@ module _ (L : Layer) (t : List ℕ) where
     where
       by : (a : Answer) → first_no (length_questions L (length t)) ≡ a → Accepted L (trace_of L t).table
       by Yes e = let sound = (lengths-of L t e).sound in rw e (all-kept-accepted L (traced_table L) sound (traced-kept L sound))
-      by (No q place) e = rw e accepted
+      by (Err e) asked = rw asked accepted

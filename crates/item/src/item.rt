@@ -17,8 +17,8 @@ pub struct Point {
 
 #[derive(Clone, Copy)]
 pub enum Item {
-    Move(Point),
-    Line(Point),
+    Move(f64, f64),
+    Line(f64, f64),
     Close,
 }
 
@@ -53,7 +53,11 @@ pub fn point_of(e: Edge, offset: u8) -> Point
 pub fn item_to(due: bool, p: Point) -> Item
     ensures { result ≡ item_to due p }
 {
-    if due { Item::Move(p) } else { Item::Line(p) }
+    if due {
+        Item::Move(p.x, p.y)
+    } else {
+        Item::Line(p.x, p.y)
+    }
 }
 
 // The byte that stands for an item.
@@ -61,8 +65,8 @@ fn byte_of(item: Item) -> u8
     ensures { result ≡ byte_of item }
 {
     match item {
-        Item::Move(_) => 0x4D,
-        Item::Line(_) => 0x6C,
+        Item::Move(..) => 0x4D,
+        Item::Line(..) => 0x6C,
         Item::Close => 0x5A,
     }
 }
@@ -74,9 +78,9 @@ pub fn put_item(items: &mut [u8], points: &mut [f64], at: &mut Written, item: It
 {
     items[at.items] = byte_of(item);
     at.items += 1;
-    if let Item::Move(p) | Item::Line(p) = item {
-        points[at.floats] = p.x;
-        points[at.floats + 1] = p.y;
+    if let Item::Move(x, y) | Item::Line(x, y) = item {
+        points[at.floats] = x;
+        points[at.floats + 1] = y;
         at.floats += 2;
     }
 }

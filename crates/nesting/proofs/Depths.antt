@@ -52,17 +52,17 @@ pub record NestedLeft (L : Layer) (left : List Nested) : Type 0 where
   pub all : AllFirst L firsts
   pub is : left ≡ with_depths L firsts
 
-pub nested-start : (L : Layer) {left : List Nested} → left ≡ with_depths L (first_sticks L) → NestedLeft L left
+abbrev pub nested-start : (L : Layer) {left : List Nested} → left ≡ with_depths L (first_sticks L) → NestedLeft L left
 nested-start L e = record { firsts = first_sticks L; all = all-first L (firsts-start L refl); is = e }
 
 -- one of them, and those after it
-pub record Here (L : Layer) (firsts : List Edge) (n : Nested) (left' : List Nested) : Type 0 where
+pub record HereNested (L : Layer) (firsts : List Edge) (n : Nested) (left' : List Nested) : Type 0 where
   pub is_first : first (walk_of L) n.first ≡ true
   pub deep : n.depth ≡ depth L n.first
   pub later : NestedLeft L left'
   pub next : firsts ≡ n.first ∷ later.firsts
 
-here-in : {L : Layer} (firsts : List Edge) → AllFirst L firsts → {n : Nested} {left' : List Nested} → with_depths L firsts ≡ n ∷ left' → Here L firsts n left'
+here-in : {L : Layer} (firsts : List Edge) → AllFirst L firsts → {n : Nested} {left' : List Nested} → with_depths L firsts ≡ n ∷ left' → HereNested L firsts n left'
 here-in [] all e = absurd cc
 here-in {L} (f ∷ firsts) all {n} {left'} e =
     let same : record { first = f; depth = depth L f } ≡ n = cc in
@@ -76,8 +76,8 @@ here-in {L} (f ∷ firsts) all {n} {left'} e =
       next = ap (λ (g : Edge). g ∷ firsts) stick;
     }
 
-pub here : {L : Layer} {left left' : List Nested} {n : Nested} (nested : NestedLeft L left) → left ≡ n ∷ left' → Here L nested.firsts n left'
-here nested e = here-in nested.firsts nested.all (sym nested.is ∙ e)
+pub nested-here : {L : Layer} {left left' : List Nested} {n : Nested} (nested : NestedLeft L left) → left ≡ n ∷ left' → HereNested L nested.firsts n left'
+nested-here nested e = here-in nested.firsts nested.all (sym nested.is ∙ e)
 
 none-in : (L : Layer) (firsts : List Edge) → with_depths L firsts ≡ [] → firsts ≡ []
 none-in L [] e = refl

@@ -5,6 +5,8 @@ use mathlib.Core.List.{List}
 use Prim.Native.Nat.{ℕ, zero, suc, ◌+◌, ◌-◌, ◌*◌, ◌/◌, ◌%◌, ◌^◌, min, ◌≤◌, ◌<◌}
 use native.Mathlib.Nat.{add-zero, div-add-mod'}
 use native.Mathlib.Omega.{arith}
+use Rattle.bitset.specs.Bits.{OneTaken}
+use Rattle.bitset.specs.declared.ones.Ones.{Ones}
 use Rattle.arith.specs.Ranges.{least}
 use Rattle.arith.proofs.Booleans.{beq-yes, beq-no}
 use Rattle.grid.specs.Layer.{Layer, bit, sample, stride}
@@ -110,10 +112,6 @@ module _ {L : Layer} {r end : ℕ} where
     pub byte-room : c + z < 8 * at + 8
     byte-room = found.0
 
-    pub byte-narrow : Sound L → c + z < 1023
-    byte-narrow sound =
-        omega (arith, (stick-within L sound (east (c + z) r) found.1).column_below, sound.whole.sized.narrow)
-
     module _ (sound : Sound L) where
       -- the lowest bit is the next stick: if it is not past the end the sweep stands at it,
       pub byte-stick : SweptAt L (record { row = r; column = c + z; around = n })
@@ -143,6 +141,22 @@ module _ {L : Layer} {r end : ℕ} where
   byte_last {at} {x} {c} b sound none =
       b.counted
       ∙ sym (none_between sound r (omega (arith, b.reach, b.in_byte)) (λ k a h. left-done L false at r c x b.left none k a (omega arith)))
+
+-- the same as the bits of the byte come, one after the other, of which the first is that of column c
+module _ {L : Layer} {r end at n : ℕ} (c : ℕ) {s : Ones} (b : ByteSwept L at r end s.left (c + s.at) n) {k z : ℕ} {s' : Ones} (taken : OneTaken s k s' z) where
+  place : c + s.at + z ≡ c + k
+  place = omega (arith, taken.here)
+
+  pub one-stick : Sound L → SweptAt L (record { row = r; column = c + k; around = n })
+  one-stick sound = rw place at (byte-stick b taken.lowest taken.below sound)
+
+  pub one_past : Sound L → end ≤ c + k → n ≡ contours_around L (min (8 * at + 8) end) r
+  one_past sound past = byte_past b taken.lowest taken.below sound (omega (arith, place))
+
+  pub one-turn : {m : ℕ} → c + k < end → m ≡ contours_around L (c + k + 1) r → ByteSwept L at r end s'.left (c + s'.at) m
+  one-turn less counted =
+      let next : c + s'.at ≡ c + s.at + z + 1 = omega (arith, taken.next) in
+      rw (taken.left, next) (byte-turn b taken.lowest taken.below (omega (arith, place)) (rw (sym place) at counted))
 
 -- Along the row, from byte to byte
 

@@ -11,15 +11,15 @@ use contour::FirstSticks;
 
 // The first sticks that are still to come, and where the sweep stands: at the west end of the last one.
 #[derive(Drop)]
-pub struct NestedFirsts<'a> {
-    pub nesting: Nesting<'a>,
-    pub firsts: FirstSticks<'a>,
+pub struct NestedFirsts<'l, 's, 'b> {
+    pub nesting: Nesting<'l, 's, 'b>,
+    pub firsts: FirstSticks<'l, 's>,
     pub at: Sweep,
     pub ghost all_first: { AllFirst (plain nesting.contours.layer) (firsts_left firsts) },
     pub ghost counted: { Counted (plain nesting.contours.layer) at },
 }
 
-impl<'a> Iterator for NestedFirsts<'a> {
+impl<'l, 's, 'b> Iterator for NestedFirsts<'l, 's, 'b> {
     type Item = Nested;
 
     ghost use Rattle.std.specs.Iterator.{YieldsFirst, item_count};

@@ -19,7 +19,7 @@ pub struct Nested {
 }
 
 // The first sticks with their depths, in the order of the contours.
-pub fn nested_of<'a>(nesting: Nesting<'a>) -> NestedFirsts<'a>
+pub fn nested_of<'l, 's, 'b>(nesting: Nesting<'l, 's, 'b>) -> NestedFirsts<'l, 's, 'b>
     ensures { nested_left result ≡ with_depths (plain nesting.entry.contours.layer) (first_sticks (plain nesting.entry.contours.layer)) }
 {
     NestedFirsts {

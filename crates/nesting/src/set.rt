@@ -7,8 +7,8 @@ use contour::ContourSet;
 
 // A layer with the set of its first sticks and that of the sticks on its bores: what tells how its contours lie within each other.
 #[derive(Clone, Copy)]
-pub struct Nesting<'a> {
-    pub contours: ContourSet<'a>,
-    pub bores: &'a EdgeSet,
+pub struct Nesting<'l, 's, 'b> {
+    pub contours: ContourSet<'l, 's>,
+    pub bores: &'b EdgeSet,
     pub ghost bore_set: { BoreSet (plain contours.layer) bores.now },
 }

@@ -7,7 +7,7 @@ ghost use Rattle.winding.specs.Turns.{contours_around};
 ghost use Rattle.nesting.specs.Sweeps.{Counted, Swept, SweptAt, sweep_at};
 
 use super::set::Nesting;
-use bitset::{contains, lowest_bit};
+use bitset::{contains, ones_of};
 use grid::{Edge, is_inside};
 use mask::stick_byte;
 
@@ -41,19 +41,20 @@ fn over_byte(nesting: Nesting, from: Sweep, end: usize) -> usize
     ensures { result ≡ contours_around (plain nesting.entry.contours.layer) (min (8 * (from.column / 8) + 8) end) from.row }
 {
     let byte = stick_byte(nesting.contours.layer, false, from.column / 8, from.row);
-    let mut left = u64::from(byte) >> (from.column % 8);
-    let mut at = from;
-    while left != 0 {
-        let zeros = lowest_bit(left);
-        if at.column + zeros >= end {
-            return at.around;
+    let mut around = from.around;
+    for b in ones_of(u64::from(byte) >> (from.column % 8)) {
+        let column = from.column + b;
+        if column >= end {
+            return around;
         }
-        at.column += zeros;
-        at.around = crossed(nesting, at);
-        at.column += 1;
-        left = (left >> zeros) / 2;
+        let at = Sweep {
+            row: from.row,
+            column,
+            around,
+        };
+        around = crossed(nesting, at);
     }
-    at.around
+    around
 }
 
 // How many contours are around the sample at column `end` of the sweep's row.

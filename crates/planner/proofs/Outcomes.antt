@@ -1,6 +1,7 @@
 -- Question 14 and the outcome of the call: how the lengths decide, and what is left in the outputs.
 use mathlib.Core.Path.{◌≡◌, sym, ap, ◌∙◌}
 use mathlib.Core.List.{List, [], ◌∷◌}
+use Rattle.std.specs.Prelude.{Ok, Err}
 use Prim.Native.Nat.{ℕ, ◌+◌, ◌*◌, ◌≤◌, ◌<◌}
 use native.Mathlib.Omega.{arith}
 use borrow.Author.Tests.{le-leb, lt-leb}
@@ -12,12 +13,10 @@ use Rattle.arith.specs.Ranges.{count}
 use Rattle.arith.proofs.Booleans.{and-short}
 use Rattle.arith.proofs.Ranges.{count-le}
 use Rattle.grid.specs.Layer.{Layer}
-use Rattle.grid.specs.Questions.{first_no, ask}
-use Rattle.grid.specs.declared.question.Refusal.{Refusal}
-use Rattle.grid.specs.declared.question.Refusal.TheVariants.{ShortOutput}
-use Rattle.grid.specs.declared.question.Answer.{Answer}
-use Rattle.grid.specs.declared.question.Answer.TheVariants.{Yes, No}
-use Rattle.grid.proofs.Answers.{first-only, append-no, append-yes}
+use Rattle.grid.specs.Questions.{Answer, Yes, No, first_no, ask}
+use Rattle.grid.specs.declared.refusal.Refusal.TheVariants.{ShortOutput}
+use Rattle.grid.specs.declared.refusal.Refused.{Refused}
+use Rattle.grid.proofs.Answers.{append-no}
 use Rattle.grid.proofs.Numbers.{edges-small}
 use Rattle.contour.specs.Contours.{contour_count}
 use Rattle.bitset.specs.Sets.{set_bits}
@@ -26,33 +25,26 @@ use Rattle.held.specs.Questions.{held_questions, Accepted}
 use Rattle.item.specs.Items.{byte_of, bytes_of, floats_of}
 use Rattle.item.specs.Writing.{buffers_of, at_start, Room}
 use Rattle.planner.specs.Items.{listed_items}
-use Rattle.planner.specs.Plan.{Outcome, outcome, room_answer, answered, plan_of}
+use Rattle.planner.specs.Plan.{outcome, room_answer, answered, plan_of}
 use Rattle.planner.specs.Writing.{accepted_of}
-use Rattle.planner.specs.declared.planning.Planned.TheVariants.{Done, Refused}
 use Rattle.planner.proofs.Lengths.{bytes-all, floats-all}
 
 -- By an answer
 
 module _ (L : Layer) (t items : List ℕ) (points : List Float) where
-  outcome-no : {a : Answer} {q : Refusal} {p : ℕ} → a ≡ No q p → outcome (Refused q p) items points ≡ answered a L t items points
+  outcome-no : {a : Answer} {e : Refused} → a ≡ Err e → outcome (Err e) items points ≡ answered a L t items points
   unfolding answered
   outcome-no e = ap (λ (a : Answer). answered a L t items points) (sym e)
 
   outcome-yes : {a : Answer} → a ≡ Yes → {n m : ℕ} → n ≡ length (bytes_of (listed_items L t)) → m ≡ length (floats_of (listed_items L t))
       → {items' : List ℕ} → items' ≡ sets items 0 (bytes_of (listed_items L t))
       → {points' : List Float} → points' ≡ sets points 0 (floats_of (listed_items L t))
-      → outcome (Done n m) items' points' ≡ answered a L t items points
+      → outcome (Ok (record { items = n; floats = m })) items' points' ≡ answered a L t items points
   unfolding answered
-  outcome-yes e n m i p = (λ j. outcome (Done (n j) (m j)) (i j) (p j)) ∙ ap (λ (a : Answer). answered a L t items points) (sym e)
+  outcome-yes e n m i p = (λ j. outcome (Ok (record { items = n j; floats = m j })) (i j) (p j)) ∙ ap (λ (a : Answer). answered a L t items points) (sym e)
 
-  -- questions 1 to 7, then 14
-  pub plan-yes : first_no (held_questions L t) ≡ Yes → {o : Outcome} → o ≡ accepted_of L t items points → o ≡ plan_of L t items points
-  plan-yes e is =
-      is
-      ∙ ap (λ (a : Answer). answered a L t items points)
-      (first-only (room_answer L t items points) ∙ append-yes (held_questions L t) (room_answer L t items points ∷ []) e)
-
-  pub plan-no : {q : Refusal} {p : ℕ} → first_no (held_questions L t) ≡ No q p → outcome (Refused q p) items points ≡ plan_of L t items points
+  -- questions 1 to 7 refuse
+  pub plan-no : {e : Refused} → first_no (held_questions L t) ≡ Err e → outcome (Err e) items points ≡ plan_of L t items points
   plan-no e = outcome-no (sym (append-no (held_questions L t) (room_answer L t items points ∷ []) e))
 
 -- Question 14, by the number of kept vertices and of contours
@@ -97,10 +89,10 @@ module _ {L : Layer} {t : List ℕ} {kept many : ℕ} (c : Tallies L t kept many
         (and-short (leb (length (bytes_of (listed_items L t))) (length items)) _
         (ap (λ (n : ℕ). leb n (length points)) float-count ∙ lt-leb (2 * kept) (length points) h))
 
-    pub refused-items : length items < kept + many → outcome (Refused ShortOutput 0) items points ≡ accepted_of L t items points
+    pub refused-items : length items < kept + many → outcome (Err (record { question = ShortOutput; place = 0 })) items points ≡ accepted_of L t items points
     refused-items h = outcome-no L t items points (short-items h)
 
-    pub refused-points : length points < 2 * kept → outcome (Refused ShortOutput 0) items points ≡ accepted_of L t items points
+    pub refused-points : length points < 2 * kept → outcome (Err (record { question = ShortOutput; place = 0 })) items points ≡ accepted_of L t items points
     refused-points h = outcome-no L t items points (short-points h)
 
     module _ (i : kept + many ≤ length items) (p : 2 * kept ≤ length points) where
@@ -116,5 +108,5 @@ module _ {L : Layer} {t : List ℕ} {kept many : ℕ} (c : Tallies L t kept many
 
       pub list_done : {items' : List ℕ} → items' ≡ sets items 0 (bytes_of (listed_items L t))
           → {points' : List Float} → points' ≡ sets points 0 (floats_of (listed_items L t))
-          → outcome (Done (kept + many) (2 * kept)) items' points' ≡ accepted_of L t items points
+          → outcome (Ok (record { items = kept + many; floats = 2 * kept })) items' points' ≡ accepted_of L t items points
       list_done = outcome-yes L t items points room-yes (sym byte-count) (sym float-count)

@@ -1,15 +1,14 @@
 -- The planner's list: what the call answers and leaves in its two outputs.
-use Rattle.std.specs.Prelude.{◌&&◌, List, [], ◌∷◌, ◌++◌, ℕ, leb, Float, length}
+use Rattle.std.specs.Prelude.{Result, Ok, Err, ◌&&◌, List, [], ◌∷◌, ◌++◌, ℕ, leb, Float, length}
 use Rattle.std.proofs.lemmas.List.Edits.{sets}
 use Rattle.grid.specs.Layer.{Layer}
-use Rattle.grid.specs.Questions.{first_no, if_all_yes, ask, number_of}
-use Rattle.grid.specs.declared.question.Refusal.TheVariants.{ShortOutput}
-use Rattle.grid.specs.declared.question.Answer.{Answer}
+use Rattle.grid.specs.Questions.{Answer, first_no, if_all_yes, ask, number_of}
+use Rattle.grid.specs.declared.refusal.Refusal.TheVariants.{ShortOutput}
+use Rattle.grid.specs.declared.refusal.Refused.{Refused}
 use Rattle.held.specs.Questions.{held_questions}
 use Rattle.item.specs.Items.{bytes_of, floats_of}
+use Rattle.item.specs.declared.item.Written.{Written}
 use Rattle.planner.specs.Items.{listed_items}
-use Rattle.planner.specs.declared.planning.Planned.{Planned}
-use Rattle.planner.specs.declared.planning.Planned.TheVariants.{Done, Refused}
 
 -- the number of a refusal and its place, both 0 where the call is done; how many items and floats were written; and the outputs at exit
 pub record Outcome : Type 0 where
@@ -21,11 +20,11 @@ pub record Outcome : Type 0 where
   pub point_buffer : List Float
 
 -- what an answer and two outputs at exit say
-abbrev pub outcome : Planned → List ℕ → List Float → Outcome
-outcome (Done n m) items points =
-    record { refusal = 0; place = 0; items = n; floats = m; item_buffer = items; point_buffer = points }
-outcome (Refused q place) items points =
-    record { refusal = number_of q; place = place; items = 0; floats = 0; item_buffer = items; point_buffer = points }
+abbrev pub outcome : Result Written Refused → List ℕ → List Float → Outcome
+outcome (Ok w) items points =
+    record { refusal = 0; place = 0; items = w.items; floats = w.floats; item_buffer = items; point_buffer = points }
+outcome (Err e) items points =
+    record { refusal = number_of e.question; place = e.place; items = 0; floats = 0; item_buffer = items; point_buffer = points }
 
 -- "14. Does each output hold the whole answer? (0)"
 unfoldable pub room_answer : Layer → List ℕ → List ℕ → List Float → Answer

@@ -5,4 +5,4 @@ mod listing;
 mod places;
 mod planning;
 
-pub use planning::{Planned, plan};
+pub use planning::plan;

@@ -25,7 +25,6 @@ use Rattle.polyline.specs.Items.{items_to, contour_items}
 use Rattle.item.specs.Writing.{Buffers, write_item, Room}
 use Rattle.item.specs.declared.item.Item.{Item}
 use Rattle.item.specs.declared.item.Point.{Point}
-use Rattle.item.specs.declared.item.Item.TheVariants.{Close}
 use Rattle.item.proofs.Writing.{room-first, room_next}
 
 -- the items for the kept vertices of a list of sticks, by whether the move is still due
@@ -97,14 +96,6 @@ module _ {L : Layer} {t : List ℕ} {f : Edge} (given : LentAt L t f) {b₀ : Bu
         still = sym (w.same left') ∙ (rw next at g.still);
         room = w.room left' (rw next at g.room);
       }
-
-    -- all but the close is written
-    module _ (over : left ≡ []) where
-      pub writes-close : Room b (Close ∷ [])
-      writes-close = rw over at g.room
-
-      pub writes-end : {b' : Buffers} → b' ≡ write_item b Close → b' ≡ foldl write_item b₀ (contour_items L t f)
-      writes-end e = e ∙ (rw over at g.still)
 
 -- A walk round the contour of f stands with n kept vertices counted: those still to come make all
 pub record PartTallied (L : Layer) (t : List ℕ) (f : Edge) (left : List Edge) (n : ℕ) : Type 0 where

@@ -3,7 +3,7 @@
 use Rattle.std.specs.Prelude.{cond, List, ℕ, ltb, length}
 use Rattle.grid.specs.Layer.{Layer}
 use Rattle.grid.specs.Questions.{number_of}
-use Rattle.grid.specs.declared.question.Refusal.TheVariants.{ShortOutput}
+use Rattle.grid.specs.declared.refusal.Refusal.TheVariants.{ShortOutput}
 use Rattle.trace.specs.Trace.{trace_of}
 use Rattle.trace.specs.Counts.{counts_of}
 use Rattle.smooth.specs.Call.{smooth_of}

@@ -12,125 +12,127 @@ ghost use Rattle.area.specs.Call as Area;
 ghost use Rattle.report.specs.Results.{Outputs, Measures, trace_result, counts_result, smooth_result, simplify_result, roll_result, write_result, read_result, plan_result, measure_result, sample_result};
 
 use super::report::{Report, done_report, figure_of, refused_report};
-use area::Measured;
-use planner::Planned;
-use reading::SheetRead;
-use roll::Rolled;
-use sheet::Written;
-use simplify::Simplified;
-use smooth::Smoothing;
-use trace::{Counted, Traced};
-use view::Sampled;
+use grid::{Answer, Refused};
+use item::Written;
+use roll::RollRefused;
+use simplify::RunCounts;
+use smooth::Settling;
+use trace::Counted;
 
-pub fn traced_report(answer: Traced) -> Report
+pub fn traced_report(answer: Answer) -> Report
     ensures { (t : List ℕ) → record { report = result; buffers = t } ≡ trace_result (Trace.outcome answer t) }
 {
     match answer {
-        Traced::Done => done_report(0, 0, 0),
-        Traced::Refused(q, place) => refused_report(q, place),
+        Ok(()) => done_report(0, 0, 0),
+        Err(no) => refused_report(no),
     }
 }
 
-pub fn counted_report(answer: Counted) -> Report
+pub fn counted_report(answer: Result<Counted, Refused>) -> Report
     ensures { record { report = result; buffers = tt } ≡ counts_result (Counts.figures_of answer) }
 {
     match answer {
-        Counted::Done {
-            inside,
-            sticks,
-            contours,
-        } => done_report(inside, sticks, contours),
-        Counted::Refused(q, place) => refused_report(q, place),
+        Ok(
+            Counted {
+                inside,
+                sticks,
+                contours,
+            },
+        ) => done_report(inside, sticks, contours),
+        Err(no) => refused_report(no),
     }
 }
 
-pub fn smoothed_report(answer: Smoothing) -> Report
+pub fn smoothed_report(answer: Result<Settling, Refused>) -> Report
     ensures { (t : List ℕ) → record { report = result; buffers = t } ≡ smooth_result (Smooth.outcome answer t) }
 {
     match answer {
-        Smoothing::Done {
-            passes,
-            total,
-            settled,
-        } => done_report(passes, total, usize::from(settled)),
-        Smoothing::Refused(q, place) => refused_report(q, place),
+        Ok(
+            Settling {
+                passes,
+                total,
+                settled,
+            },
+        ) => done_report(passes, total, usize::from(settled)),
+        Err(no) => refused_report(no),
     }
 }
 
-pub fn simplified_report(answer: Simplified) -> Report
+pub fn simplified_report(answer: Result<RunCounts, Refused>) -> Report
     ensures { (t : List ℕ) → record { report = result; buffers = t } ≡ simplify_result (Simplify.outcome answer t) }
 {
     match answer {
-        Simplified::Done { removed, tried } => done_report(removed, tried, 0),
-        Simplified::Refused(q, place) => refused_report(q, place),
+        Ok(RunCounts { removed, tried }) => done_report(removed, tried, 0),
+        Err(no) => refused_report(no),
     }
 }
 
 // A refused roll also reports how many commands were done.
-pub fn rolled_report(answer: Rolled) -> Report
+pub fn rolled_report(answer: Result<usize, RollRefused>) -> Report
     ensures { (t : List ℕ) → record { report = result; buffers = t } ≡ roll_result (Roll.outcome answer t) }
 {
     match answer {
-        Rolled::Done(done) => done_report(done, 0, 0),
-        Rolled::Refused {
-            question,
-            place,
-            done,
-        } => Report {
+        Ok(done) => done_report(done, 0, 0),
+        Err(
+            RollRefused {
+                question,
+                place,
+                done,
+            },
+        ) => Report {
             first: done,
-            ..refused_report(question, place)
+            ..refused_report(Refused { question, place })
         },
     }
 }
 
-pub fn written_report(answer: Written) -> Report
+pub fn written_report(answer: Result<usize, Refused>) -> Report
     ensures { (out : List ℕ) → record { report = result; buffers = out } ≡ write_result (Write.outcome answer out) }
 {
     match answer {
-        Written::Done(length) => done_report(length, 0, 0),
-        Written::Refused(q, place) => refused_report(q, place),
+        Ok(length) => done_report(length, 0, 0),
+        Err(no) => refused_report(no),
     }
 }
 
-pub fn read_report(answer: SheetRead) -> Report
+pub fn read_report(answer: Answer) -> Report
     ensures { (t : List ℕ) → record { report = result; buffers = t } ≡ read_result (Read.outcome answer t) }
 {
     match answer {
-        SheetRead::Done => done_report(0, 0, 0),
-        SheetRead::Refused(q, place) => refused_report(q, place),
+        Ok(()) => done_report(0, 0, 0),
+        Err(no) => refused_report(no),
     }
 }
 
-pub fn planned_report(answer: Planned) -> Report
+pub fn planned_report(answer: Result<Written, Refused>) -> Report
     ensures { (out : Outputs) → record { report = result; buffers = out } ≡ plan_result (Plan.outcome answer out.items out.points) }
 {
     match answer {
-        Planned::Done { items, floats } => done_report(items, floats, 0),
-        Planned::Refused(q, place) => refused_report(q, place),
+        Ok(Written { items, floats }) => done_report(items, floats, 0),
+        Err(no) => refused_report(no),
     }
 }
 
-pub fn measured_report(answer: Measured) -> Report
+pub fn measured_report(answer: Result<area::Measures, Refused>) -> Report
     ensures { (out : Measures) → record { report = result; buffers = out } ≡ measure_result (Area.outcome answer out.areas out.sums) }
 {
     match answer {
-        Measured::Done {
-            contours,
-            edges,
-            total,
-        } => done_report(contours, edges, figure_of(total)),
-        Measured::Refused(q, place) => refused_report(q, place),
+        Ok(
+            area::Measures {
+                contours,
+                edges,
+                total,
+            },
+        ) => done_report(contours, edges, figure_of(total)),
+        Err(no) => refused_report(no),
     }
 }
 
-pub fn sampled_report(sampled: Sampled) -> Report
-    ensures { record { report = result; buffers = tt } ≡ sample_result sampled }
+pub fn sampled_report(answer: Result<bool, Refused>) -> Report
+    ensures { record { report = result; buffers = tt } ≡ sample_result answer }
 {
-    Report {
-        number: sampled.number,
-        place: sampled.place,
-        first: usize::from(sampled.inside),
-        second: 0,
-        third: 0,
+    match answer {
+        Ok(inside) => done_report(usize::from(inside), 0, 0),
+        Err(no) => refused_report(no),
     }
 }

@@ -3,7 +3,7 @@ ghost use Rattle.std.specs.Prelude.{◌≡◌, ◌≤◌, length};
 ghost use Rattle.grid.specs.Questions.{number_of};
 ghost use Rattle.report.specs.Results.{ReportStored, twos_complement};
 
-use grid::Refusal;
+use grid::Refused;
 
 #[derive(Clone, Copy)]
 pub struct Report {
@@ -27,12 +27,12 @@ pub fn put_report(figures: &mut [u64], report: Report) -> u32
 }
 
 // A refused call reports the question's number and its place. All its other figures are 0.
-pub fn refused_report(q: Refusal, place: usize) -> Report
-    ensures { result ≡ record { number = number_of q; place = place; first = 0; second = 0; third = 0 } }
+pub fn refused_report(no: Refused) -> Report
+    ensures { result ≡ record { number = number_of no.question; place = no.place; first = 0; second = 0; third = 0 } }
 {
     Report {
-        number: grid::refusal_number(q),
-        place,
+        number: u32::from(no.question),
+        place: no.place,
         first: 0,
         second: 0,
         third: 0,

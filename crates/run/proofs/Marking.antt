@@ -1,6 +1,8 @@
 -- Marks along a contour: how they are put one after the other, and that the stick at a place is as many steps on from the mark before it
 -- as the place is beyond.
-use mathlib.Core.Path.{◌≡◌, refl, ◌∙◌, ap}
+use Rattle.std.specs.Prelude.{Some, slice_get}
+use Rattle.std.proofs.lemmas.Option.{slice_get_within, get_or_from_slice_get}
+use mathlib.Core.Path.{◌≡◌, refl, sym, ◌∙◌, ap}
 use mathlib.Core.Bool.{true}
 use mathlib.Core.List.{List}
 use Prim.Native.Nat.{ℕ, ◌+◌, ◌*◌, ◌/◌, ◌%◌, ◌<◌}
@@ -56,29 +58,38 @@ module _ {L : Layer} {f : Edge} {n : ℕ} (contour : HasSticks L f n) {marks : L
 
 -- From a mark
 
+-- so many steps on from a stick is where h steps on from e is
+pub record LeadsOn (L : Layer) (e : Edge) (h : ℕ) (near : Edge) (steps : ℕ) : Type 0 where
+  pub stick : is_stick L near ≡ true
+  pub same : stick_after L steps near ≡ stick_after L h e
+
 module _ {L : Layer} {marks : List ℕ} {e : Edge} {p h : ℕ} (along : Along L marks e p h) where
-  -- the sum of the steps is small, and e is a stick
+  -- the sum of the steps is small
   pub along-small : p + h < 2095104
   along-small = omega (arith, along.inside, most-sticks (record { sound = along.sound; stick = along.stick; all = refl }))
 
-  pub along-stick : is_stick L e ≡ true
-  along-stick = stick-on L along.from p along.sound along.stick along.here
+  -- from e itself
+  pub leads-here : LeadsOn L e h e h
+  leads-here = record { stick = stick-on L along.from p along.sound along.stick along.here; same = refl }
 
-  -- the mark before a place, and the steps from there
-  module _ {near : Edge} (room : (p + h) / 64 < length marks) (is : near ≡ edge_at L.size (get_or marks ((p + h) / 64) 0)) where
+  -- from the mark before the place
+  module _ {near : Edge} {mark : ℕ} (found : slice_get marks ((p + h) / 64) ≡ Some mark) (is : near ≡ edge_at L.size mark) where
     near-mark : near ≡ stick_after L ((p + h) / 64 * 64) along.from
     near-mark =
         let inside = along.inside in
+        let room = slice_get_within marks ((p + h) / 64) mark found in
         is
-        ∙ ap (edge_at L.size) (along.marked ((p + h) / 64) room (omega arith))
+        ∙ ap (edge_at L.size) (sym (get_or_from_slice_get marks ((p + h) / 64) mark 0 found) ∙ along.marked ((p + h) / 64) room (omega arith))
         ∙ (laws L along.sound).at_number _
         (ahead-one (walk_of L) (laws L along.sound) ((p + h) / 64 * 64) along.from along.stick)
 
-    pub near-stick : is_stick L near ≡ true
-    near-stick = stick-on L along.from ((p + h) / 64 * 64) along.sound along.stick near-mark
-
-    pub from-mark : {r : Edge} → r ≡ stick_after L ((p + h) % 64) near → r ≡ stick_after L h e
-    from-mark on =
+    pub leads-mark : LeadsOn L e h near ((p + h) % 64)
+    leads-mark =
         let sum : (p + h) / 64 * 64 + (p + h) % 64 ≡ p + h = omega arith in
-        steps-from L along.from p h along.here
-        (steps_on L along.from ((p + h) / 64 * 64) ((p + h) % 64) near-mark on ∙ ap (λ (m : ℕ). stick_after L m along.from) sum)
+        record {
+          stick = stick-on L along.from ((p + h) / 64 * 64) along.sound along.stick near-mark;
+          same =
+              steps-from L along.from p h along.here
+              (steps_on L along.from ((p + h) / 64 * 64) ((p + h) % 64) near-mark refl
+              ∙ ap (λ (m : ℕ). stick_after L m along.from) sum);
+        }

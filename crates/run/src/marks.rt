@@ -34,11 +34,9 @@ pub fn stick_at(layer: Layer, marks: &[u32], e: Edge, p: usize, h: usize) -> Edg
     ensures { result ≡ stick_after (plain layer.entry) h e }
 {
     let place = p + h;
-    match marks.get(place / APART) {
-        Some(&mark) if APART <= h => {
-            let near = edge_at(layer.size, mark as usize);
-            stick_after(layer, near, place % APART)
-        }
-        _ => stick_after(layer, e, h),
-    }
+    let (near, steps) = match marks.get(place / APART) {
+        Some(&mark) if APART <= h => (edge_at(layer.size, mark as usize), place % APART),
+        _ => (e, h),
+    };
+    stick_after(layer, near, steps)
 }

@@ -10,6 +10,8 @@ use native.Mathlib.Omega.{arith}
 use lib.IntN.{ℤ, pos, nat_abs, ◌+ℤ◌}
 use lib.ListN.{length, set, length-set}
 use lib.Seq.{sets}
+use Rattle.bitset.specs.Bits.{OneTaken}
+use Rattle.bitset.specs.declared.ones.Ones.{Ones}
 use Rattle.arith.specs.Ranges.{least}
 use Rattle.arith.proofs.Booleans.{both-sides}
 use Rattle.arith.proofs.Bounds.{nat_abs-add}
@@ -17,7 +19,7 @@ use Rattle.grid.specs.Layer.{Layer, bit}
 use Rattle.grid.specs.Edges.{number, is_stick, stick_in, edge_at, edge_columns, edge_rows, edge_count, kind_start, row_start, StickBits}
 use Rattle.grid.specs.declared.layer.Size.{Size}
 use Rattle.grid.specs.declared.edge.Edge.{Edge}
-use Rattle.grid.proofs.Numbers.{number-below, edge_at-number, edge_at-row, columns-narrow, edges-small, edges-split}
+use Rattle.grid.proofs.Numbers.{number-below, edge_at-number, edge_at-row, edges-small, edges-split}
 use Rattle.step.proofs.Walks.{stick-within}
 use Rattle.contour.specs.Walk.{numbered}
 use Rattle.contour.specs.Contours.{walk_of, sticks_by_number}
@@ -216,9 +218,6 @@ module _ {L : Layer} {t : List ℕ} {v : Bool} {r at : ℕ} where
       column : c + z < edge_columns L.size v
       column = (stick-within L run.onward.below.accepted.sound next_stick found.1).column_below
 
-      pub byte-room : (c + z < 8 * at + 8) × (c + z < 1024)
-      byte-room = (found.0, omega (arith, column, columns-narrow L.size run.onward.below.accepted.sound.whole.sized v))
-
       to-stick : Onward L t p s (number L.size next_stick) u
       to-stick =
           subst (λ (q : ℕ). Onward L t p s q u) (stick-spot L.size v r (c + z) column)
@@ -246,6 +245,24 @@ module _ {L : Layer} {t : List ℕ} {v : Bool} {r at : ℕ} where
         let end : 8 * at + 8 ≡ 8 * (at + 1) = omega arith in
         subst (λ (d : ℕ). Onward L t p s (spot L.size v r d) u) end
         (then run.onward (skip in_row (8 * at + 8) run.within (left-done L v at r c x run.left none)))
+
+-- the same as the bits of the byte come, one after the other
+module _ {L : Layer} {t : List ℕ} {v : Bool} {r at p : ℕ} {it : Ones} {s u : State}
+    (run : ByteRun L t v r at p s it.left (8 * at + it.at) u) {n z : ℕ} {it' : Ones} (taken : OneTaken it n it' z) where
+  place : 8 * at + it.at + z ≡ 8 * at + n
+  place = omega (arith, taken.here)
+
+  abbrev pub stick_at : Edge
+  stick_at = record { vertical = v; column = 8 * at + n; row = r }
+
+  pub one-stick : AtStick L t stick_at u
+  one-stick = rw place at (byte-stick run taken.lowest taken.below)
+
+  pub one-turn : {u' : State} → Onward L t (number L.size stick_at) u (number L.size stick_at + 1) u'
+      → ByteRun L t v r at p s it'.left (8 * at + it'.at) u'
+  one-turn past =
+      let next : 8 * at + it'.at ≡ 8 * at + it.at + (z + 1) = omega (arith, taken.next) in
+      rw (taken.left, next) (byte-turn run taken.lowest taken.below (rw (sym place) at past))
 
 -- ---- all sticks
 

@@ -20,6 +20,9 @@ pub record State : Type 0 where
   pub output : List ℤ
   pub running : Running
 
+abbrev pub state : List ℤ → Running → State
+state output running = record { output = output; running = running }
+
 -- a drawn edge that adds z: the sum after it goes to the next place
 abbrev pub with_edge : ℤ → State → State
 with_edge z s =

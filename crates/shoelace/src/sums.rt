@@ -5,10 +5,10 @@ ghost use Rattle.grid.specs.Edges.{edge_rows, number};
 ghost use Rattle.grid.specs.Plain.{plain};
 ghost use Rattle.held.specs.Questions.{Accepted};
 ghost use Rattle.shoelace.specs.Sums.{drawn_count};
-ghost use Rattle.shoelace.specs.Running.{Below, Onward, spot, InRow, AtStick, AllSummed};
+ghost use Rattle.shoelace.specs.Running.{state, Below, Onward, spot, InRow, AtStick, AllSummed};
 
 use super::adds::edge_adds;
-use bitset::lowest_bit;
+use bitset::ones_of;
 use grid::{Edge, Layer, edge_rows, stride_of};
 use mask::stick_byte;
 use table::{entry_at, is_kept};
@@ -22,8 +22,8 @@ pub struct Running {
 
 // Goes on past a stick: if its vertex is kept, the sum after its drawn edge is stored at the next place.
 fn put_sum(layer: Layer, table: &[u16], e: Edge, sums: &mut [i64], running: &mut Running)
-    requires { AtStick (plain layer) table.now e (record { output = sums.old; running = running.old }) }
-    ensures { Onward (plain layer.entry) table.now (number layer.entry.size e) (record { output = sums.old; running = running.old }) (number layer.entry.size e + 1) (record { output = sums.new; running = running.new }) }
+    requires { AtStick (plain layer) table.now e (state sums.old running.old) }
+    ensures { Onward (plain layer.entry) table.now (number layer.entry.size e) (state sums.old running.old) (number layer.entry.size e + 1) (state sums.new running.new) }
 {
     if is_kept(entry_at(layer.size, table, e)) {
         running.sum += edge_adds(layer, table, e);
@@ -43,21 +43,16 @@ fn sums_in_byte(
     running: &mut Running,
 )
     requires at_bound { at < stride layer.size }
-    requires in_row { InRow (plain layer) table.now vertical row (8 * at) (record { output = sums.old; running = running.old }) }
-    ensures { Onward (plain layer.entry) table.now (spot layer.entry.size vertical row (8 * at)) (record { output = sums.old; running = running.old }) (spot layer.entry.size vertical row (8 * (at + 1))) (record { output = sums.new; running = running.new }) }
+    requires in_row { InRow (plain layer) table.now vertical row (8 * at) (state sums.old running.old) }
+    ensures { Onward (plain layer.entry) table.now (spot layer.entry.size vertical row (8 * at)) (state sums.old running.old) (spot layer.entry.size vertical row (8 * (at + 1))) (state sums.new running.new) }
 {
-    let mut left = u64::from(stick_byte(layer, vertical, at, row));
-    let mut column = 8 * at;
-    while left != 0 {
-        let zeros = lowest_bit(left);
+    for b in ones_of(u64::from(stick_byte(layer, vertical, at, row))) {
         let e = Edge {
             vertical,
-            column: column + zeros,
+            column: 8 * at + b,
             row,
         };
         put_sum(layer, table, e, sums, running);
-        left = (left >> zeros) / 2;
-        column += zeros + 1;
     }
 }
 
@@ -69,8 +64,8 @@ fn sums_in_row(
     sums: &mut [i64],
     running: &mut Running,
 )
-    requires { InRow (plain layer) table.now vertical row 0 (record { output = sums.old; running = running.old }) }
-    ensures { Onward (plain layer.entry) table.now (spot layer.entry.size vertical row 0) (record { output = sums.old; running = running.old }) (spot layer.entry.size vertical (row + 1) 0) (record { output = sums.new; running = running.new }) }
+    requires { InRow (plain layer) table.now vertical row 0 (state sums.old running.old) }
+    ensures { Onward (plain layer.entry) table.now (spot layer.entry.size vertical row 0) (state sums.old running.old) (spot layer.entry.size vertical (row + 1) 0) (state sums.new running.new) }
 {
     for at in 0..stride_of(layer.size) {
         sums_in_byte(layer, table, vertical, row, at, sums, running);
@@ -84,8 +79,8 @@ fn sums_of_kind(
     sums: &mut [i64],
     running: &mut Running,
 )
-    requires { Below (plain layer) table.now (spot layer.size vertical 0 0) (record { output = sums.old; running = running.old }) }
-    ensures { Onward (plain layer.entry) table.now (spot layer.entry.size vertical 0 0) (record { output = sums.old; running = running.old }) (spot layer.entry.size vertical (edge_rows layer.entry.size vertical) 0) (record { output = sums.new; running = running.new }) }
+    requires { Below (plain layer) table.now (spot layer.size vertical 0 0) (state sums.old running.old) }
+    ensures { Onward (plain layer.entry) table.now (spot layer.entry.size vertical 0 0) (state sums.old running.old) (spot layer.entry.size vertical (edge_rows layer.entry.size vertical) 0) (state sums.new running.new) }
 {
     for row in 0..edge_rows(layer.size, vertical) {
         sums_in_row(layer, table, vertical, row, sums, running);

@@ -40,25 +40,30 @@ const LINKS: [u8; 16] = [
     0b11_10_01_00, // all inside
 ];
 
-fn side_index(side: Side) -> usize
-    ensures { result ≡ side_index side }
-{
-    match side {
-        Side::South => 0,
-        Side::East => 1,
-        Side::North => 2,
-        Side::West => 3,
+// The number of a side in the table.
+impl From<Side> for u8 {
+    ghost from_gives = { λ side n. n ≡ side_index side };
+
+    fn from(side: Side) -> u8 {
+        match side {
+            Side::South => 0,
+            Side::East => 1,
+            Side::North => 2,
+            Side::West => 3,
+        }
     }
 }
 
-fn side_at(n: u8) -> Side
-    ensures { result ≡ side_at n }
-{
-    match n {
-        0 => Side::South,
-        1 => Side::East,
-        2 => Side::North,
-        _ => Side::West,
+impl From<u8> for Side {
+    ghost from_gives = { λ n side. side ≡ side_at n };
+
+    fn from(n: u8) -> Side {
+        match n {
+            0 => Side::South,
+            1 => Side::East,
+            2 => Side::North,
+            _ => Side::West,
+        }
     }
 }
 
@@ -67,7 +72,7 @@ pub fn linked_in(pattern: usize, side: Side) -> Side
     requires { pattern < 16 }
     ensures { result ≡ linked_in pattern side }
 {
-    side_at((LINKS[pattern] >> (2 * side_index(side))) % 4)
+    Side::from((LINKS[pattern] >> (2 * u8::from(side))) % 4)
 }
 
 // The grid edge that a side of a cell is.
@@ -76,8 +81,7 @@ pub fn edge_of(p: CellSide) -> Edge
     requires row_bound { p.row < 1024 }
     ensures { result ≡ edge_of p }
 {
-    let side = p.side;
-    match side {
+    match p.side {
         Side::South => Edge {
             vertical: false,
             column: p.column,

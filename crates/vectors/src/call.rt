@@ -7,7 +7,7 @@ use super::measure::areas_call;
 use super::script::Failure;
 use super::state::State;
 use super::text::{plan_call, read_call, roll_call, write_call};
-use grid::{Answer, Size};
+use grid::Size;
 use report::Report;
 use std::io::Read;
 
@@ -70,7 +70,7 @@ fn held_report(w: u16, h: u16, bitmap: &[u8], table: &[u16]) -> Report {
         height: usize::from(h),
     };
     match held::ask_layer_held(size, bitmap, table) {
-        Answer::Yes => report::done_report(0, 0, 0),
-        Answer::No(q, place) => report::refused_report(q, place),
+        Ok(()) => report::done_report(0, 0, 0),
+        Err(no) => report::refused_report(no),
     }
 }

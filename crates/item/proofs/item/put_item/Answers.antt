@@ -9,4 +9,4 @@ bounds-points-at c = omega (arith, room-point c.requires c.in-Move.is)
 
 pub bounds-points-at-in-Move : goal.bounds-points-at-in-Move
 bounds-points-at-in-Move c =
-    omega (arith, room-point c.requires c.in-Move.is, length-set c.args.points.now c.args.at.now.floats c.in-Move.p.x)
+    omega (arith, room-point c.requires c.in-Move.is, length-set c.args.points.now c.args.at.now.floats c.in-Move.x)

@@ -1,21 +1,20 @@
 -- `plan` meets its contract: questions 1 to 7, then 14.
 use mathlib.Core.Path.{sym, ◌∙◌}
-use Rattle.grid.specs.Layer.{layer_of, size_of}
+use Rattle.std.proofs.lemmas.Result.{err_from_is_err_and}
 use Rattle.bitset.proofs.Sets.{empty-set}
 use Rattle.held.proofs.Asking.{accepted-of}
 use Rattle.planner.proofs.Outcomes.{plan-no}
 use Rattle.planner.proofs.planning.plan.Goals as goal
 
-pub ask_held_firsts-answer-requires : goal.ask_held_firsts-answer-requires
-ask_held_firsts-answer-requires c = empty-set
+pub ask_held_firsts-requires : goal.ask_held_firsts-requires
+ask_held_firsts-requires c = empty-set
 
-pub plan_accepted-requires-clause-accepted : goal.plan_accepted-requires-clause-accepted
-plan_accepted-requires-clause-accepted c =
-    let a = c.args in
-    accepted-of (layer_of (size_of a.w a.h) a.bitmap.now) a.table.now (sym c.ask_held_firsts-answer.ensures.value ∙ c.in-Yes.is)
+pub plan_accepted-requires : goal.plan_accepted-requires
+plan_accepted-requires c = accepted-of _ c.args.table.now (sym c.ask_held_firsts.ensures.value ∙ c.in_ok-ask_held_firsts.was)
 
-pub returns-in-No : goal.returns-in-No
-returns-in-No c =
+pub returns-in_err-ask_held_firsts : goal.returns-in_err-ask_held_firsts
+returns-in_err-ask_held_firsts c =
     let a = c.args in
-    plan-no (layer_of (size_of a.w a.h) a.bitmap.now) a.table.now a.items.now a.points.now
-    (sym c.ask_held_firsts-answer.ensures.value ∙ c.in-No.is)
+    let exit = err_from_is_err_and c.from_residual.result c.from_residual.ensures.1 in
+    rw (exit.1, exit.2)
+    (plan-no _ a.table.now a.items.now a.points.now (sym c.ask_held_firsts.ensures.value ∙ c.in_err-ask_held_firsts.was))

@@ -1,9 +1,9 @@
 use Prim.Native.Nat.{◌*◌}
 use Rattle.grid.specs.Plain.{plain}
-use Rattle.shoelace.specs.Running.{Onward, spot}
+use Rattle.shoelace.specs.Running.{state, Onward, spot}
 use Rattle.shoelace.proofs.sums.sums_in_row.Given as goal
 
 abbrev pub invariant-loop-at : goal.invariant-loop-at
 invariant-loop-at l =
-    Onward (plain l.layer) l.table (spot l.layer.size l.vertical l.row 0) (record { output = l.initial.sums; running = l.initial.running })
-    (spot l.layer.size l.vertical l.row (8 * l.at)) (record { output = l.sums; running = l.running })
+    Onward (plain l.layer) l.table (spot l.layer.size l.vertical l.row 0) (state l.initial.sums l.initial.running)
+    (spot l.layer.size l.vertical l.row (8 * l.at)) (state l.sums l.running)
