@@ -11,7 +11,7 @@ use Rattle.grid.specs.Questions.{Yes, Sound}
 use Rattle.grid.specs.declared.edge.Edge.{Edge}
 use Rattle.contour.specs.Contours.{contour_of, first_sticks}
 use Rattle.contour.proofs.Laps.{OnLap, on_lap, due-stick, lap-turn}
-use Rattle.contour.proofs.Firsts.{FirstsLeft, firsts-start, firsts-turn, fold-turn, fold_end}
+use Rattle.contour.proofs.Firsts.{FirstsLeft, firsts-start, firsts-turn, fold-turn}
 use Rattle.table.specs.Stores.{store}
 use Rattle.table.specs.Lent.{LentAt}
 use Rattle.table.specs.declared.entry.Entry.{Entry}
@@ -44,9 +44,6 @@ module _ {L : Layer} {s : List ℕ} {f : Edge} {i : ℕ} {t₀ : List ℕ} {left
 
   module _ {place : ℕ} {t : List ℕ} (st : Storing L s f i t₀ left place t) where
     module _ {x : Edge} {later : List Edge} (next : left ≡ x ∷ later) where
-      pub storing-room : place + 2 ≤ length s
-      storing-room = omega (arith, st.room, ap length next)
-
       module _ (sound : Sound L) where
         -- what is given of the stick that comes next
         pub storing-here : LentAt L t x
@@ -66,10 +63,6 @@ module _ {L : Layer} {s : List ℕ} {f : Edge} {i : ℕ} {t₀ : List ℕ} {left
                   ap (λ (r : Reading). foldl (store_vertex L s) r later) stored
                   ∙ fold-turn (store_vertex L s) (reading_at place t) _ next st.still;
             }
-
-    -- none is left
-    pub storing-end : left ≡ [] → reading_at place t ≡ store_contour L s f (reading_at i t₀)
-    storing-end over = fold_end (store_vertex L s) (reading_at place t) _ over st.still
 
 -- All contours: taking the commands for those of the first sticks `left`, expected at `place`, into the table t, gives the described table
 

@@ -6,9 +6,9 @@ use lib.ListN.{length}
 use Rattle.grid.specs.Layer.{Layer}
 use Rattle.grid.specs.Questions.{Sound}
 use Rattle.grid.specs.declared.edge.Edge.{Edge}
-use Rattle.contour.specs.Contours.{contour_of, first_sticks}
+use Rattle.contour.specs.Contours.{contour_of}
 use Rattle.contour.proofs.Laps.{OnLap, on_lap, due-stick, lap-turn}
-use Rattle.contour.proofs.Firsts.{FirstsLeft, firsts-start, firsts-turn}
+use Rattle.contour.proofs.Firsts.{FirstsLeft, firsts-turn}
 use Rattle.table.specs.Vertices.{entry_at}
 use Rattle.table.specs.Lent.{LentAt}
 use Rattle.table.specs.declared.entry.Entry.{Entry}
@@ -60,28 +60,24 @@ pub record AtContour (L : Layer) (t s₀ : List ℕ) (i₀ : ℕ) (s : List ℕ)
   pub firsts : FirstsLeft L left
   pub stored : PartStored s₀ i₀ (all_contours L t) s i (contours_bytes L t left)
 
-module _ {L : Layer} {t s₀ : List ℕ} {i₀ : ℕ} where
-  pub contours-start : {left : List Edge} → left ≡ first_sticks L → AtContour L t s₀ i₀ s₀ i₀ left
-  contours-start e = record { firsts = firsts-start L e; stored = rw e part-start }
-
-  module _ {s : List ℕ} {i : ℕ} {left : List Edge} (here : AtContour L t s₀ i₀ s i left) where
-    module _ {f : Edge} {later : List Edge} (next : left ≡ f ∷ later) where
-      next-contour : PartStored s₀ i₀ (all_contours L t) s i (contour_bytes L t f ++ contours_bytes L t later)
-      unfolding contours_bytes
-      next-contour = rw next at here.stored
-
-      -- there is room for the contour that comes next,
-      pub contour-room : i₀ + length (all_contours L t) ≤ length s₀ → i + length (contour_bytes L t f) ≤ length s
-      contour-room h = part_room (contour_bytes L t f) (contours_bytes L t later) next-contour h
-
-      -- which is stored
-      pub contours-turn : {s' : List ℕ} {i' : ℕ} → Stored s i (contour_bytes L t f) s' i' → AtContour L t s₀ i₀ s' i' later
-      contours-turn put =
-          record {
-            firsts = firsts-turn here.firsts next;
-            stored = part-turn (contour_bytes L t f) (contours_bytes L t later) next-contour put;
-          }
-
-    pub contours-end : left ≡ [] → Stored s₀ i₀ (all_contours L t) s i
+module _ {L : Layer} {t s₀ : List ℕ} {i₀ : ℕ} {s : List ℕ} {i : ℕ} {left : List Edge} (here : AtContour L t s₀ i₀ s i left) where
+  module _ {f : Edge} {later : List Edge} (next : left ≡ f ∷ later) where
+    next-contour : PartStored s₀ i₀ (all_contours L t) s i (contour_bytes L t f ++ contours_bytes L t later)
     unfolding contours_bytes
-    contours-end over = part_end (rw over at here.stored)
+    next-contour = rw next at here.stored
+
+    -- there is room for the contour that comes next,
+    pub contour-room : i₀ + length (all_contours L t) ≤ length s₀ → i + length (contour_bytes L t f) ≤ length s
+    contour-room h = part_room (contour_bytes L t f) (contours_bytes L t later) next-contour h
+
+    -- which is stored
+    pub contours-turn : {s' : List ℕ} {i' : ℕ} → Stored s i (contour_bytes L t f) s' i' → AtContour L t s₀ i₀ s' i' later
+    contours-turn put =
+        record {
+          firsts = firsts-turn here.firsts next;
+          stored = part-turn (contour_bytes L t f) (contours_bytes L t later) next-contour put;
+        }
+
+  pub contours-end : left ≡ [] → Stored s₀ i₀ (all_contours L t) s i
+  unfolding contours_bytes
+  contours-end over = part_end (rw over at here.stored)

@@ -4,11 +4,10 @@ use mathlib.Core.Bool.{Bool, true, false, cond}
 use mathlib.Core.List.{List}
 use Prim.Native.Nat.{ℕ, ◌-◌, ◌≤◌}
 use native.Mathlib.Omega.{arith}
-use borrow.Author.Tests.{ne_eqb, leb-true}
-use lib.Dec.{eqb, leb}
-use lib.ListN.{length, get_or, take, drop, length-drop}
+use borrow.Author.Tests.{ne_eqb}
+use lib.Dec.{eqb}
+use lib.ListN.{length, take, drop, length-drop}
 use lib.Seq.{take_all}
-use Rattle.arith.proofs.Booleans.{and_split}
 use Rattle.grid.specs.Layer.{Layer, layer_of, size_of}
 use Rattle.std.specs.Prelude.{Result, Ok, Err}
 use Rattle.std.specs.Result.{result_unwrap_or}
@@ -26,7 +25,7 @@ use Rattle.simplify.proofs.Outcomes.{simplify-leaves}
 use Rattle.sheet.specs.Written as Sheet
 use Rattle.sheet.specs.Written.{sheet_of}
 use Rattle.sheet.proofs.Answered.{written-done}
-use Rattle.slicing.specs.Slice.{size_letter, command_length, whole_command, number_at, sides_fit, refused_bytes, pass_limit, tolerance, refined, bytes_after, layer_bytes, slice_of, stored, outcome}
+use Rattle.slicing.specs.Slice.{command_length, whole_command, number_at, sides_fit, refused_bytes, pass_limit, tolerance, refined, bytes_after, layer_bytes, slice_of, stored, outcome}
 
 -- Smooth and then Simplify: t, t₁ and t₂ are the tables before, between and after
 pub refined-is : (L : Layer) (t t₁ t₂ : List ℕ) (s : Result Settling Refused) (r : Result RunCounts Refused)
@@ -66,9 +65,6 @@ module _ (L : Layer) (t out : List ℕ) (yes-7 : first_no (held_questions L t) �
       absurd (omega (arith, number-within n.question, none))
 
 -- The command and the sides
-
-pub command-long : (input : List ℕ) → whole_command input ≡ true → command_length ≤ length input
-command-long input h = leb-true command_length (length input) (and_split (leb command_length (length input)) (eqb (get_or input 0 0) size_letter) h).0
 
 module _ (input : List ℕ) where
   pub no-command : whole_command input ≡ false → slice_of input ≡ refused_bytes 2

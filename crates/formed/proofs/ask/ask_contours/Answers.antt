@@ -1,13 +1,9 @@
 -- `ask_contours` meets its contract. The invariant: the answer for the contours from here on is that for all of them.
-use mathlib.Core.Path.{ap, ◌∙◌}
+use mathlib.Core.Path.{◌∙◌}
 use Rattle.std.proofs.lemmas.Result.{err_from_is_err_and}
-use Rattle.contour.specs.Remaining.{firsts_left}
 use Rattle.contour.proofs.Firsts.{here-stick}
-use Rattle.formed.proofs.Asking.{sheet-start, sheet-no, sheet-next, sheet-end}
+use Rattle.formed.proofs.Asking.{sheet-no, sheet-next, sheet-end}
 use Rattle.formed.proofs.ask.ask_contours.Goals as goal
-
-pub loop-first-init : goal.loop-first-init
-loop-first-init c = sheet-start c.requires (ap firsts_left c.into_iter-first-iterator.ensures.into_iter_gives ∙ c.firsts_of-first-items.ensures)
 
 pub walk_contour-requires : goal.walk_contour-requires
 walk_contour-requires c =

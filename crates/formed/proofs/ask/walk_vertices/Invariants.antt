@@ -1,3 +1,4 @@
+-- The answer for what is left of the contour from here is that for the whole of it.
 use Rattle.grid.specs.Plain.{plain}
 use Rattle.contour.specs.Remaining.{sticks_left}
 use Rattle.formed.proofs.Asking.{Walking}

@@ -11,8 +11,6 @@ unfolding tabulate_from
 zeros i zero = refl
 zeros i (suc n) = ap (λ (l : List ℕ). 0 ∷ l) (zeros (suc i) n)
 
-pub store_contours-requires : goal.store_contours-requires
-store_contours-requires c =
-    let given = c.requires in
-    let none = c.fill.ensures.after (λ y e. e) ∙ ap (λ (n : ℕ). replicate n 0) given.table_len ∙ zeros 0 _ in
-    record { formed = given.formed; empty = none }
+pub store_contours-requires-clause-empty : goal.store_contours-requires-clause-empty
+store_contours-requires-clause-empty c =
+    c.fill.ensures.after (λ y e. e) ∙ ap (λ (n : ℕ). replicate n 0) c.requires.table_len ∙ zeros 0 _

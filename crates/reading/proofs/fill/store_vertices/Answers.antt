@@ -2,7 +2,7 @@
 use mathlib.Core.Path.{ap, ◌∙◌}
 use Rattle.contour.specs.Remaining.{sticks_left}
 use Rattle.table.proofs.Lent.{has-entry}
-use Rattle.reading.proofs.Storing.{storing-start, storing-here, storing-room, storing-turn, storing-end}
+use Rattle.reading.proofs.Storing.{storing-start, storing-here, storing-turn}
 use Rattle.reading.proofs.fill.store_vertices.Goals as goal
 
 pub loop-e-init : goal.loop-e-init
@@ -10,14 +10,8 @@ loop-e-init c =
     storing-start c.requires.lent_at c.requires.room
     (ap sticks_left c.into_iter-e-iterator.ensures.into_iter_gives ∙ c.sticks_of-e-items.ensures)
 
-pub entry_from-requires : goal.entry_from-requires
-entry_from-requires c = storing-room c.loop-e.invariant c.in-Some.ensures.steps
-
 pub store-requires : goal.store-requires
 store-requires c = has-entry (storing-here c.loop-e.invariant c.in-Some.ensures.steps c.args.layer.sound)
 
 pub loop-e-preserved : goal.loop-e-preserved
 loop-e-preserved c = storing-turn c.loop-e.invariant c.in-Some.ensures.steps c.args.layer.sound c.entry_from.ensures c.store.ensures
-
-pub returns : goal.returns
-returns c = storing-end c.loop-e.invariant c.in-None.ensures.steps.0

@@ -5,7 +5,7 @@ use native.Mathlib.Omega.{arith}
 use Rattle.contour.specs.Remaining.{firsts_left}
 use Rattle.contour.proofs.Firsts.{here-stick}
 use Rattle.contour.proofs.Sticks.{stick-in}
-use Rattle.held.proofs.Asking.{ask-no, ask-end}
+use Rattle.held.proofs.Asking.{ask-no}
 use Rattle.reading.proofs.Asking.{asked-start, asked-stand, asked-next}
 use Rattle.reading.proofs.holding.ask_described.Goals as goal
 
@@ -19,10 +19,9 @@ overflow_add-first c =
 pub held_contour-requires : goal.held_contour-requires
 held_contour-requires c = asked-stand c.loop-stick.invariant c.in-Some.ensures.steps c.args.contours.layer.sound c.requires
 
-pub number_of-requires : goal.number_of-requires
-number_of-requires c =
-    let sound = c.args.contours.layer.sound in
-    record { sized = sound.whole.sized; within = stick-in _ _ (here-stick c.loop-stick.invariant.asked.firsts c.in-Some.ensures.steps sound) }
+pub number_of-requires-clause-within : goal.number_of-requires-clause-within
+number_of-requires-clause-within c =
+    stick-in _ _ (here-stick c.loop-stick.invariant.asked.firsts c.in-Some.ensures.steps c.args.contours.layer.sound)
 
 pub returns-in_default : goal.returns-in_default
 returns-in_default c =
@@ -30,6 +29,3 @@ returns-in_default c =
 
 pub loop-stick-preserved : goal.loop-stick-preserved
 loop-stick-preserved c = asked-next c.loop-stick.invariant c.in-Some.ensures.steps c.in-Some-held_contour.ensures
-
-pub returns : goal.returns
-returns c = ask-end c.loop-stick.invariant.asked c.in-None.ensures.steps.0

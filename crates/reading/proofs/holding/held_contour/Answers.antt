@@ -30,14 +30,13 @@ pub loop-stick-init : goal.loop-stick-init
 loop-stick-init c =
     at-start c.requires (ap sticks_left c.into_iter-stick-iterator.ensures.into_iter_gives ∙ c.sticks_of-stick-items.ensures)
 
-pub held_edge-requires : goal.held_edge-requires
-held_edge-requires c =
+pub held_edge-requires-clause-vertex_expected : goal.held_edge-requires-clause-vertex_expected
+held_edge-requires-clause-vertex_expected c = at-vertex c.loop-stick.invariant c.args.layer.sound c.in-Some.ensures.steps
+
+pub held_edge-requires-clause-kept : goal.held_edge-requires-clause-kept
+held_edge-requires-clause-kept c =
     let x = at-vertex c.loop-stick.invariant c.args.layer.sound c.in-Some.ensures.steps in
-    record {
-      vertices_stand = c.requires;
-      vertex_expected = x;
-      kept = letter-kept c.requires x (λ k. (c.type_inv.sheet k).fits) c.if-sheet-v-ne82.true;
-    }
+    letter-kept c.requires x (λ k. (c.type_inv.sheet k).fits) c.if-sheet-v-ne82.true
 
 pub returns-then-not-held_edge : goal.returns-then-not-held_edge
 returns-then-not-held_edge c =

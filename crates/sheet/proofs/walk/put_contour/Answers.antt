@@ -13,12 +13,12 @@ pub put_bytes-requires : goal.put_bytes-requires
 unfolding contour_bytes
 put_bytes-requires c = rw c.contour_command.ensures (omega (arith, c.requires.room))
 
-pub put_vertices-requires : goal.put_vertices-requires
+pub put_vertices-requires-clause-room : goal.put_vertices-requires-clause-room
 unfolding contour_bytes
-put_vertices-requires c =
+put_vertices-requires-clause-room c =
     let a = c.args in
     let opened = c.put_bytes.ensures ∙ ap (sets a.sheet.now a.at) c.contour_command.ensures in
-    record { lent_at = c.requires.lent_at; room = omega (arith, c.requires.room, stored-length a.sheet.now a.at (contour_command a.first) opened) }
+    omega (arith, c.requires.room, stored-length a.sheet.now a.at (contour_command a.first) opened)
 
 pub returns : goal.returns
 unfolding contour_bytes

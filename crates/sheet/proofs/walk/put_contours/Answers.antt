@@ -1,12 +1,7 @@
 -- `put_contours` meets its contract. The invariant: the contours that are left, stored from here on, give the whole.
-use mathlib.Core.Path.{ap, ◌∙◌}
-use Rattle.contour.specs.Remaining.{firsts_left}
 use Rattle.contour.proofs.Firsts.{here-stick}
-use Rattle.sheet.proofs.Contours.{contours-start, contour-room, contours-turn, contours-end}
+use Rattle.sheet.proofs.Contours.{contour-room, contours-turn, contours-end}
 use Rattle.sheet.proofs.walk.put_contours.Goals as goal
-
-pub loop-first-init : goal.loop-first-init
-loop-first-init c = contours-start (ap firsts_left c.into_iter-first-iterator.ensures.into_iter_gives ∙ c.firsts_of-first-items.ensures)
 
 pub put_contour-place-requires : goal.put_contour-place-requires
 put_contour-place-requires c =

@@ -14,13 +14,13 @@ put_bytes-requires c =
     let a = c.args in
     rw c.size_command.ensures (omega (arith, c.requires.room, sheet-parts (plain a.contours.layer) a.table.now))
 
-pub put_contours-end-requires : goal.put_contours-end-requires
-put_contours-end-requires c =
+pub put_contours-end-requires-clause-room : goal.put_contours-end-requires-clause-room
+put_contours-end-requires-clause-room c =
     let a = c.args in
     let L = plain a.contours.layer in
     let opened = c.put_bytes.ensures ∙ ap (sets a.sheet.now 0) c.size_command.ensures in
     let same = stored-length a.sheet.now 0 (size_command a.contours.layer.size) opened in
-    record { lent = c.requires.lent; room = omega (arith, c.requires.room, sheet-parts L a.table.now, same) }
+    omega (arith, c.requires.room, sheet-parts L a.table.now, same)
 
 pub put_bytes-requires-2 : goal.put_bytes-requires-2
 put_bytes-requires-2 c =
