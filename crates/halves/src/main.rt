@@ -42,7 +42,8 @@ fn from_below(vertical: bool, k: u8) -> u8
     requires k_bound { k ≤ 254 }
     ensures { result ≡ toward_middle k }
 {
-    moved(vertical, k, k as usize + 1, k as usize + 2)
+    let from = usize::from(k);
+    moved(vertical, k, from + 1, from + 2)
 }
 
 // old is k + 1, and v is k + 1 - 5/4.
@@ -51,7 +52,8 @@ fn from_above(vertical: bool, k: u8) -> u8
     requires k_bound { k ≤ 254 }
     ensures { result ≡ toward_middle k }
 {
-    moved(vertical, k + 1, k as usize, k as usize - 1)
+    let from = usize::from(k);
+    moved(vertical, k + 1, from, from - 1)
 }
 
 fn write_line(out: &impl Print, k: u8) -> io::Result<()>

@@ -1,13 +1,13 @@
 // The exported library: a C function for each call. It returns the number of the refusal, 0 if the call is done, and writes four figures: the
-// place, then the call's own in their order, 0 for the rest. A slice is a pointer and a length in elements. include/puzhenim.h declares them.
+// place, then the call's own in their order, 0 for the rest. With fewer figures than four, question 14 is answered no before anything is done.
+// A slice is a pointer and a length in elements. include/puzhenim.h declares them.
 #![tactic(auto)]
 
 ghost use Rattle.std.specs.Prelude.{◌≡◌, length};
 ghost use Rattle.grid.specs.Layer.{layer_of, size_of};
 ghost use Rattle.puzhenim.specs.Face.{trace_face, counts_face, smooth_face, simplify_face, roll_face, write_face, read_face, plan_face, measure_face, sample_face};
 
-// The number of question 14, for fewer figures than four.
-const SHORT_OUTPUT: u32 = 14;
+use grid::Refusal;
 
 #[unsafe(no_mangle)]
 pub extern "C" fn pz_counts(
@@ -20,7 +20,7 @@ pub extern "C" fn pz_counts(
     ensures { record { number = result; buffers = tt; figures = figures.new } ≡ counts_face (layer_of (size_of w h) bitmap.now) (length table.now) figures.old }
 {
     if figures.len() < 4 {
-        return SHORT_OUTPUT;
+        return u32::from(Refusal::ShortOutput);
     }
     let answer = trace::counts(w, h, bitmap, table);
     report::put_report(figures, report::counted_report(answer))
@@ -37,7 +37,7 @@ pub extern "C" fn pz_trace(
     ensures { record { number = result; buffers = table.new; figures = figures.new } ≡ trace_face (layer_of (size_of w h) bitmap.now) table.old figures.old }
 {
     if figures.len() < 4 {
-        return SHORT_OUTPUT;
+        return u32::from(Refusal::ShortOutput);
     }
     let answer = trace::trace(w, h, bitmap, table);
     report::put_report(figures, report::traced_report(answer))
@@ -55,7 +55,7 @@ pub extern "C" fn pz_smooth(
     ensures { record { number = result; buffers = table.new; figures = figures.new } ≡ smooth_face (layer_of (size_of w h) bitmap.now) limit table.old figures.old }
 {
     if figures.len() < 4 {
-        return SHORT_OUTPUT;
+        return u32::from(Refusal::ShortOutput);
     }
     let answer = smooth::smooth(w, h, bitmap, table, limit);
     report::put_report(figures, report::smoothed_report(answer))
@@ -73,7 +73,7 @@ pub extern "C" fn pz_simplify(
     ensures { record { number = result; buffers = table.new; figures = figures.new } ≡ simplify_face (layer_of (size_of w h) bitmap.now) t table.old figures.old }
 {
     if figures.len() < 4 {
-        return SHORT_OUTPUT;
+        return u32::from(Refusal::ShortOutput);
     }
     let answer = simplify::simplify(w, h, bitmap, table, t);
     report::put_report(figures, report::simplified_report(answer))
@@ -92,7 +92,7 @@ pub extern "C" fn pz_roll(
     ensures { record { number = result; buffers = table.new; figures = figures.new } ≡ roll_face (layer_of (size_of w h) bitmap.now) t roll.now table.old figures.old }
 {
     if figures.len() < 4 {
-        return SHORT_OUTPUT;
+        return u32::from(Refusal::ShortOutput);
     }
     let answer = roll::roll(w, h, bitmap, table, roll, t);
     report::put_report(figures, report::rolled_report(answer))
@@ -110,7 +110,7 @@ pub extern "C" fn pz_write_sheet(
     ensures { record { number = result; buffers = sheet.new; figures = figures.new } ≡ write_face (layer_of (size_of w h) bitmap.now) table.now sheet.old figures.old }
 {
     if figures.len() < 4 {
-        return SHORT_OUTPUT;
+        return u32::from(Refusal::ShortOutput);
     }
     let answer = sheet::write_sheet(w, h, bitmap, table, sheet);
     report::put_report(figures, report::written_report(answer))
@@ -128,7 +128,7 @@ pub extern "C" fn pz_read_sheet(
     ensures { record { number = result; buffers = table.new; figures = figures.new } ≡ read_face (layer_of (size_of w h) bitmap.now) table.old sheet.now figures.old }
 {
     if figures.len() < 4 {
-        return SHORT_OUTPUT;
+        return u32::from(Refusal::ShortOutput);
     }
     let answer = reading::read_sheet(w, h, bitmap, table, sheet);
     report::put_report(figures, report::read_report(answer))
@@ -147,7 +147,7 @@ pub extern "C" fn pz_plan(
     ensures { record { number = result; buffers = record { items = items.new; points = points.new }; figures = figures.new } ≡ plan_face (layer_of (size_of w h) bitmap.now) table.now (record { items = items.old; points = points.old }) figures.old }
 {
     if figures.len() < 4 {
-        return SHORT_OUTPUT;
+        return u32::from(Refusal::ShortOutput);
     }
     let answer = planner::plan(w, h, bitmap, table, items, points);
     report::put_report(figures, report::planned_report(answer))
@@ -166,7 +166,7 @@ pub extern "C" fn pz_areas(
     ensures { record { number = result; buffers = record { areas = areas.new; sums = sums.new }; figures = figures.new } ≡ measure_face (layer_of (size_of w h) bitmap.now) table.now (record { areas = areas.old; sums = sums.old }) figures.old }
 {
     if figures.len() < 4 {
-        return SHORT_OUTPUT;
+        return u32::from(Refusal::ShortOutput);
     }
     let answer = area::areas(w, h, bitmap, table, areas, sums);
     report::put_report(figures, report::measured_report(answer))
@@ -184,7 +184,7 @@ pub extern "C" fn pz_sample(
     ensures { record { number = result; buffers = tt; figures = figures.new } ≡ sample_face (layer_of (size_of w h) bitmap.now) column row figures.old }
 {
     if figures.len() < 4 {
-        return SHORT_OUTPUT;
+        return u32::from(Refusal::ShortOutput);
     }
     let sampled = view::sample_at(w, h, bitmap, column, row);
     report::put_report(figures, report::sampled_report(sampled))

@@ -23,7 +23,7 @@ pub fn traced_report(answer: Answer) -> Report
     ensures { (t : List ℕ) → record { report = result; buffers = t } ≡ trace_result (Trace.outcome answer t) }
 {
     match answer {
-        Ok(()) => done_report(0, 0, 0),
+        Ok(()) => done_report(0, 0, 0), // Trace has no figures
         Err(no) => refused_report(no),
     }
 }

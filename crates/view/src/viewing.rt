@@ -45,8 +45,8 @@ pub fn sample<'a>(v: View<'a>, column: u16, row: u16) -> bool
     if column >= v.width || row >= v.height {
         return false;
     }
-    let stride = (v.width as usize).div_ceil(8);
-    let at = row as usize * stride + column as usize / 8;
+    let stride = usize::from(v.width).div_ceil(8);
+    let at = usize::from(row) * stride + usize::from(column) / 8;
     let byte = v.bitmap.get(at).copied().unwrap_or(0);
     (byte >> (column % 8)) % 2 == 1
 }

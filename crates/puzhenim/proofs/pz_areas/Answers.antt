@@ -7,7 +7,7 @@ use Rattle.puzhenim.proofs.Faces.{short-face, stored-face}
 use Rattle.puzhenim.proofs.pz_areas.Goals as goal
 
 pub returns-then-figures-lt4 : goal.returns-then-figures-lt4
-returns-then-figures-lt4 c = short-face _ _ _ c.if-figures-lt4.true
+returns-then-figures-lt4 c = short-face _ _ _ c.from.ensures c.if-figures-lt4.true
 
 pub returns : goal.returns
 returns c =
