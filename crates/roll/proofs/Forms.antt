@@ -1,46 +1,49 @@
--- Question 8 command by command: what a command's first byte and the roll's length say of it, and that more fuel than there are bytes left
--- changes nothing.
+-- Question 8 command by command: that a command ends within the roll, what the answer is from it on, and that more fuel than there are bytes
+-- left changes nothing.
 use mathlib.Core.Path.{◌≡◌, refl, sym, ◌∙◌, ap}
-use mathlib.Core.Logic.{◌≢◌}
+use mathlib.Core.Bool.{Bool, true, false}
 use mathlib.Core.List.{List}
 use Prim.Native.Nat.{ℕ, zero, suc, ◌+◌, ◌≤◌, ◌<◌}
+use Rattle.std.specs.Prelude.{cond}
+use native.Mathlib.Decide.{dec_lt}
 use native.Mathlib.Omega.{arith}
-use borrow.Author.Tests.{le-leb, lt-leb, ne_eqb}
+use borrow.Author.Tests.{le-leb, lt-leb}
 use lib.Dec.{eqb}
 use lib.ListN.{length, get_or, get_or-eq_default}
 use Rattle.grid.specs.declared.refusal.Refusal.TheVariants.{Malformed}
 use Rattle.grid.specs.Questions.{Answer, No}
 use Rattle.edit.specs.Edits.{Named, ask_at}
-use Rattle.roll.specs.Commands.{Command, slides, removes, pins, ends, wrong, named_at, command_at, well_formed, formed_from, roll_answer}
+use Rattle.roll.specs.declared.command.Command.{Command as declared}
+use Rattle.roll.specs.declared.command.Command.TheVariants.{Slide, Remove, Pin, End}
+use Rattle.roll.specs.Commands.{Command, slides, removes, pins, ends, wrong, named_at, width, whole, command_at, written, well_formed, formed_from, roll_answer}
 
-module _ (r : List ℕ) (i : ℕ) where
-  -- the command at i, by its byte
-  pub at-slide : get_or r i 0 ≡ 0x53 → i + 7 ≤ length r → command_at r i ≡ slides (named_at r (i + 1)) (get_or r (i + 6) 0)
-  at-slide b h = rw (b, le-leb (i + 7) (length r) h)
+-- past the last byte there is no command
+pub at_none : (r : List ℕ) (i : ℕ) → length r ≤ i → command_at r i ≡ wrong
+at_none r i h = rw (get_or-eq_default r 0 h)
 
-  pub at-slide-cut : get_or r i 0 ≡ 0x53 → length r < i + 7 → command_at r i ≡ wrong
-  at-slide-cut b h = rw (b, lt-leb (i + 7) (length r) h)
+-- the command that is here, by what the code read
+pub read-as : {here : Command} {c d : declared} → written c ≡ here → c ≡ d → here ≡ written d
+read-as read is = sym read ∙ ap written is
 
-  pub at-removal : get_or r i 0 ≡ 0x58 → i + 6 ≤ length r → command_at r i ≡ removes (named_at r (i + 1))
-  at-removal b h = rw (b, le-leb (i + 6) (length r) h)
+-- a command ends within the roll: "wrong" has no byte
+whole_within : (r : List ℕ) (i : ℕ) (c : Command) → i ≤ length r → i + width (whole r i c) ≤ length r
+whole_within r i c h = elim (dec_lt (length r) (i + width c)) [
+  | yes k ↦ rw (lt-leb (i + width c) (length r) k) (omega arith)
+  | no k ↦ rw (le-leb (i + width c) (length r) (omega arith)) (omega arith)
+]
 
-  pub at-removal-cut : get_or r i 0 ≡ 0x58 → length r < i + 6 → command_at r i ≡ wrong
-  at-removal-cut b h = rw (b, lt-leb (i + 6) (length r) h)
+either_within : (n i : ℕ) (b : Bool) (c d : Command) → i + width c ≤ n → i + width d ≤ n → i + width (cond b c d) ≤ n
+either_within n i true c d h k = h
+either_within n i false c d h k = k
 
-  pub at_pin : get_or r i 0 ≡ 0x50 → i + 6 ≤ length r → command_at r i ≡ pins (named_at r (i + 1))
-  at_pin b h = rw (b, le-leb (i + 6) (length r) h)
-
-  pub at-pin-cut : get_or r i 0 ≡ 0x50 → length r < i + 6 → command_at r i ≡ wrong
-  at-pin-cut b h = rw (b, lt-leb (i + 6) (length r) h)
-
-  pub at-end : get_or r i 0 ≡ 0x45 → i < length r → command_at r i ≡ ends
-  at-end b h = rw (b, le-leb (i + 1) (length r) (omega arith))
-
-  pub at_other : get_or r i 0 ≢ 0x53 → get_or r i 0 ≢ 0x58 → get_or r i 0 ≢ 0x50 → get_or r i 0 ≢ 0x45 → command_at r i ≡ wrong
-  at_other s x p e = rw (ne_eqb (get_or r i 0) 0x53 s, ne_eqb (get_or r i 0) 0x58 x, ne_eqb (get_or r i 0) 0x50 p, ne_eqb (get_or r i 0) 0x45 e)
-
-  pub at_none : length r ≤ i → command_at r i ≡ wrong
-  at_none h = rw (get_or-eq_default r 0 h)
+pub within : (r : List ℕ) (i : ℕ) {c : Command} → c ≡ command_at r i → i ≤ length r → i + width c ≤ length r
+within r i here h =
+    rw here
+    (either_within (length r) i (eqb (get_or r i 0) 0x53) _ _ (whole_within r i (slides (named_at r (i + 1)) (get_or r (i + 6) 0)) h)
+    (either_within (length r) i (eqb (get_or r i 0) 0x58) _ _ (whole_within r i (removes (named_at r (i + 1))) h)
+    (either_within (length r) i (eqb (get_or r i 0) 0x50) _ _ (whole_within r i (pins (named_at r (i + 1))) h)
+    (either_within (length r) i (eqb (get_or r i 0) 0x45) _ _ (whole_within r i ends h)
+    (omega arith)))))
 
 -- the answer at a command, with `later` the answer from a place on
 abbrev step : List ℕ → ℕ → (ℕ → Answer) → Command → Answer
@@ -94,3 +97,11 @@ module _ (r : List ℕ) where
 
     pub formed-wrong : command_at r i ≡ wrong → No Malformed i ≡ formed_from r i
     formed-wrong e = sym (formed-step ∙ ap (step r i (formed_from r)) e)
+
+    -- past a command that the code read, which is no end
+    pub formed-next : (c : declared) → written c ≡ command_at r i → (c ≡ End → ⊥)
+        → formed_from r (i + width (written c)) ≡ formed_from r i
+    formed-next (Slide s o) here on = formed-slide (sym here)
+    formed-next (Remove s) here on = formed-removal (sym here)
+    formed-next (Pin s) here on = formed-pin (sym here)
+    formed-next End here on = absurd (on refl)

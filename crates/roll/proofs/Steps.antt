@@ -6,7 +6,7 @@ use Rattle.std.specs.Prelude.{Option, Some, None, Ok, Err}
 use Prim.Native.Nat.{ℕ, zero, suc, ◌+◌, ◌≤◌, ◌<◌}
 use native.Mathlib.Decide.{dec_lt}
 use native.Mathlib.Omega.{arith}
-use lib.ListN.{length, get_or}
+use lib.ListN.{length}
 use Rattle.grid.specs.Layer.{Layer}
 use Rattle.grid.specs.Questions.{if_all_yes, number_of, Answer, Yes}
 use Rattle.grid.specs.declared.refusal.Refusal.{Refusal}
@@ -14,12 +14,12 @@ use Rattle.grid.specs.declared.refusal.Refusal.TheVariants.{Malformed}
 use Rattle.grid.proofs.Answers.{no-not-yes}
 use Rattle.table.specs.Stores.{slid, without, pinned}
 use Rattle.held.specs.Questions.{Accepted}
-use Rattle.roll.specs.Commands.{Command, slides, removes, pins, ends, wrong, named_at, command_at, formed_from}
+use Rattle.roll.specs.Commands.{Command, slides, removes, pins, ends, wrong, command_at, formed_from}
 use Rattle.edit.specs.Edits.{Named, edge_named, slide_answer, removal_answer, pin_answer}
-use Rattle.edit.specs.Chords.{stored_if, Exact}
-use Rattle.roll.specs.Steps.{Step, Stepped, stop, stepped, step_on, step_by, slide_step, removal_step, pin_step, step_of, Runnable, Readable}
+use Rattle.edit.specs.Chords.{stored_if}
+use Rattle.roll.specs.Steps.{Step, Stepped, stop, stepped, step_on, step_by, slide_step, removal_step, pin_step, step_of, Runnable}
 use Rattle.roll.specs.Roll.{Outcome, run_from}
-use Rattle.roll.proofs.Forms.{formed-slide, formed-removal, formed-pin, formed-wrong, at-slide, at-slide-cut, at-removal, at-removal-cut, at_pin, at-pin-cut, at-end, at_none}
+use Rattle.roll.proofs.Forms.{formed-slide, formed-removal, formed-pin, formed-wrong, at_none}
 use Rattle.edit.proofs.Asked.{slide-keeps, removal-keeps, pin-keeps}
 
 -- a command that is done, by what comes after it
@@ -33,29 +33,11 @@ step_by_lem : (answer : Answer) (after : ℕ) (t t' : List ℕ) {u : List ℕ} �
 step_by_lem Yes after t t' s = ap (stepped (Ok (Some after))) s
 step_by_lem (Err e) after t t' s = ap (stepped (Err e)) s
 
--- of an edit that asks `f` and leaves `g`, on the stick s that the code read as s'; its answer x is known to be y
-step-made : (f : Named → Answer) (g : Named → List ℕ) (after : ℕ) (t : List ℕ) {u : List ℕ} {x y : Answer} {s s' : Named} → s' ≡ s
-    → x ≡ f s' → u ≡ stored_if x t (g s') → x ≡ y → stepped (step_on y after) u ≡ step_by (f s) after t (g s)
-step-made f g after t {u = u} {x = x} {s' = s'} same asked stored known =
-    ap (λ (z : Answer). stepped (step_on z after) u) (sym known)
-    ∙ step_by_lem x after t (g s') stored ∙ ap (λ (z : Answer). step_by z after t (g s')) asked
-    ∙ ap (λ (z : Named). step_by (f z) after t (g z)) same
-
-module _ (L : Layer) (tolerance i : ℕ) (t : List ℕ) {u : List ℕ} {x y : Answer} {s s' : Named} (same : s' ≡ s) where
-  pub slide-step : (o : ℕ) → x ≡ slide_answer L tolerance t i s' o → u ≡ stored_if x t (slid L t (edge_named s') o) → x ≡ y
-      → stepped (step_on y (i + 7)) u ≡ slide_step L tolerance i t s o
-  unfolding slide_step
-  slide-step o = step-made (λ z. slide_answer L tolerance t i z o) (λ z. slid L t (edge_named z) o) (i + 7) t same
-
-  pub removal-step : x ≡ removal_answer L tolerance t i s' → u ≡ stored_if x t (without L t (edge_named s')) → x ≡ y
-      → stepped (step_on y (i + 6)) u ≡ removal_step L tolerance i t s
-  unfolding removal_step
-  removal-step = step-made (λ z. removal_answer L tolerance t i z) (λ z. without L t (edge_named z)) (i + 6) t same
-
-pub pin-step : (L : Layer) (i : ℕ) (t : List ℕ) {u : List ℕ} {x y : Answer} {s s' : Named} → s' ≡ s
-    → x ≡ pin_answer L t i s' → u ≡ stored_if x t (pinned L t (edge_named s')) → x ≡ y → stepped (step_on y (i + 6)) u ≡ pin_step L i t s
-unfolding pin_step
-pin-step L i t same = step-made (λ z. pin_answer L t i z) (λ z. pinned L t (edge_named z)) (i + 6) t same
+-- of an edit that was answered x and left u
+step-made : (after : ℕ) (t t' : List ℕ) {u : List ℕ} {x answer : Answer} → x ≡ answer → u ≡ stored_if x t t'
+    → stepped (step_on x after) u ≡ step_by answer after t t'
+step-made after t t' {x = x} asked stored =
+    step_by_lem x after t t' stored ∙ ap (λ (z : Answer). step_by z after t t') asked
 
 -- The command at a byte of a roll that passes question 8 from there on
 
@@ -65,15 +47,6 @@ module _ (r : List ℕ) (i : ℕ) (formed : formed_from r i ≡ Yes) where
 
   pub formed_below : i < length r
   formed_below = elim (dec_lt i (length r)) [ yes h ↦ h | no h ↦ absurd (not-wrong (at_none r i (omega arith))) ]
-
-  slide-whole : get_or r i 0 ≡ 0x53 → i + 7 ≤ length r
-  slide-whole b = elim (dec_lt (length r) (i + 7)) [ yes h ↦ absurd (not-wrong (at-slide-cut r i b h)) | no h ↦ omega arith ]
-
-  removal-whole : get_or r i 0 ≡ 0x58 → i + 6 ≤ length r
-  removal-whole b = elim (dec_lt (length r) (i + 6)) [ yes h ↦ absurd (not-wrong (at-removal-cut r i b h)) | no h ↦ omega arith ]
-
-  pin-whole : get_or r i 0 ≡ 0x50 → i + 6 ≤ length r
-  pin-whole b = elim (dec_lt (length r) (i + 6)) [ yes h ↦ absurd (not-wrong (at-pin-cut r i b h)) | no h ↦ omega arith ]
 
 module _ (L : Layer) (tolerance : ℕ) (r : List ℕ) (i : ℕ) (t : List ℕ) where
   abbrev by-command : Command → Stepped
@@ -89,31 +62,22 @@ module _ (L : Layer) (tolerance : ℕ) (r : List ℕ) (i : ℕ) (t : List ℕ) w
   unfolding step_of
   step_is e = sym (ap by-command e)
 
--- by its first byte
+  -- an edit that is made at its command
+  module _ {u : List ℕ} {x : Answer} {s : Named} where
+    pub slide-here : {o : ℕ} → command_at r i ≡ slides s o → x ≡ slide_answer L tolerance t i s o
+        → u ≡ stored_if x t (slid L t (edge_named s) o) → stepped (step_on x (i + 7)) u ≡ step_of L tolerance r i t
+    unfolding slide_step
+    slide-here {o = o} here asked stored = step-made (i + 7) t (slid L t (edge_named s) o) asked stored ∙ step_is here
 
-module _ {L : Layer} {t r : List ℕ} {i : ℕ} (k : Runnable L t r i) where
-  pub slide-readable : get_or r i 0 ≡ 0x53 → Readable L t r i 7
-  slide-readable b = record { accepted = k.accepted; whole = slide-whole r i k.formed b }
+    pub removal-here : command_at r i ≡ removes s → x ≡ removal_answer L tolerance t i s → u ≡ stored_if x t (without L t (edge_named s))
+        → stepped (step_on x (i + 6)) u ≡ step_of L tolerance r i t
+    unfolding removal_step
+    removal-here here asked stored = step-made (i + 6) t (without L t (edge_named s)) asked stored ∙ step_is here
 
-  pub removal-readable : get_or r i 0 ≡ 0x58 → Readable L t r i 6
-  removal-readable b = record { accepted = k.accepted; whole = removal-whole r i k.formed b }
-
-  pub pin-readable : get_or r i 0 ≡ 0x50 → Exact L.size t × (i + 6 ≤ length r)
-  pin-readable b =
-      (record { sized = k.accepted.sound.whole.sized; exact = k.accepted.exact }, pin-whole r i k.formed b)
-
-  module _ (tolerance : ℕ) where
-    pub slide-here : get_or r i 0 ≡ 0x53 → slide_step L tolerance i t (named_at r (i + 1)) (get_or r (i + 6) 0) ≡ step_of L tolerance r i t
-    slide-here b = step_is L tolerance r i t (at-slide r i b (slide-whole r i k.formed b))
-
-    pub removal-here : get_or r i 0 ≡ 0x58 → removal_step L tolerance i t (named_at r (i + 1)) ≡ step_of L tolerance r i t
-    removal-here b = step_is L tolerance r i t (at-removal r i b (removal-whole r i k.formed b))
-
-    pub pin-here : get_or r i 0 ≡ 0x50 → pin_step L i t (named_at r (i + 1)) ≡ step_of L tolerance r i t
-    pin-here b = step_is L tolerance r i t (at_pin r i b (pin-whole r i k.formed b))
-
-    pub end-here : get_or r i 0 ≡ 0x45 → stepped (Ok None) t ≡ step_of L tolerance r i t
-    end-here b = step_is L tolerance r i t (at-end r i b (formed_below r i k.formed))
+    pub pin-here : command_at r i ≡ pins s → x ≡ pin_answer L t i s → u ≡ stored_if x t (pinned L t (edge_named s))
+        → stepped (step_on x (i + 6)) u ≡ step_of L tolerance r i t
+    unfolding pin_step
+    pin-here here asked stored = step-made (i + 6) t (pinned L t (edge_named s)) asked stored ∙ step_is here
 
 -- Fuel: as many commands as there are bytes left are enough
 

@@ -1,10 +1,12 @@
 -- The commands of an edit roll, and question 8: "S (hex 53) and a stick and an offset byte slides; X (hex 58) and a stick removes; E (hex
 -- 45) ends the roll. A stick is kind (1 byte), column, row (16 bits each, low byte first)." "A roll gains P (hex 50) and a stick, which pins a
 -- kept vertex" (Note 5).
-use Rattle.std.specs.Prelude.{cond, List, ℕ, zero, suc, ◌+◌, ◌*◌, eqb, leb, length, get_or}
+use Rattle.std.specs.Prelude.{cond, List, Option, Some, None, ℕ, zero, suc, ◌+◌, ◌*◌, eqb, leb, length, get_or}
 use Rattle.grid.specs.declared.refusal.Refusal.TheVariants.{Malformed}
 use Rattle.grid.specs.Questions.{Answer, No}
 use Rattle.edit.specs.Edits.{Named, ask_at}
+use Rattle.roll.specs.declared.command.Command.{Command as declared}
+use Rattle.roll.specs.declared.command.Command.TheVariants.{Slide, Remove, Pin, End}
 
 pub data Command : Type 0 where
   slides : Named → ℕ → Command
@@ -61,3 +63,15 @@ roll_answer r = well_formed r (length r + 1) 0
 unfoldable pub formed_from : List ℕ → ℕ → Answer
 unfolding well_formed
 formed_from r i = well_formed r (length r + 1) i
+
+-- a command as the code reads it, the enum of src/command.rt
+abbrev pub written : declared → Command
+written (Slide stick offset) = slides stick offset
+written (Remove stick) = removes stick
+written (Pin stick) = pins stick
+written End = ends
+
+-- "wrong" where it reads none
+abbrev pub command_of : Option declared → Command
+command_of None = wrong
+command_of (Some c) = written c

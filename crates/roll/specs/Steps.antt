@@ -1,5 +1,5 @@
 -- One command of a roll as the code takes it: its result, and the table after it. Roll.antt has the commands one after the other.
-use Rattle.std.specs.Prelude.{◌≡◌, List, ℕ, ◌+◌, ◌≤◌, length, Option, Some, None, Result, Ok, Err}
+use Rattle.std.specs.Prelude.{◌≡◌, List, ℕ, ◌+◌, Option, Some, None, Result, Ok, Err}
 use Rattle.grid.specs.Layer.{Layer}
 use Rattle.grid.specs.Questions.{if_all_yes, Answer, Yes}
 use Rattle.grid.specs.declared.refusal.Refusal.{Refusal}
@@ -51,12 +51,7 @@ step_of L tolerance r i t = elim (command_at r i) [
   | wrong ↦ stepped (stop Malformed i) t
 ]
 
--- What a command is run on: a layer that passes questions 1 to 7, and a roll that is well formed from byte i on, or has n bytes from there
-
+-- What a command is run on: a layer that passes questions 1 to 7, and a roll that is well formed from byte i on
 pub record Runnable (L : Layer) (t r : List ℕ) (i : ℕ) : Type 0 where
   pub accepted : Accepted L t
   pub formed : formed_from r i ≡ Yes
-
-pub record Readable (L : Layer) (t r : List ℕ) (i n : ℕ) : Type 0 where
-  pub accepted : Accepted L t
-  pub whole : i + n ≤ length r

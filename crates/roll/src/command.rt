@@ -1,8 +1,8 @@
 // The commands of an edit roll: question 8 over the whole roll, and a command taken apart.
-ghost use Rattle.std.specs.Prelude.{◌≡◌, ◌+◌, ◌≤◌, ◌<◌, length, get_or, eqb};
+ghost use Rattle.std.specs.Prelude.{◌≡◌, ◌+◌, ◌≤◌, ◌<◌, length, eqb};
 ghost use Rattle.grid.specs.declared.refusal.Refusal.TheVariants.{Malformed};
 ghost use Rattle.edit.specs.Edits.{ask_at};
-ghost use Rattle.roll.specs.Commands.{two_bytes, named_at, roll_answer};
+ghost use Rattle.roll.specs.Commands.{two_bytes, named_at, command_at, width, written, command_of, roll_answer};
 
 use edit::Named;
 use grid::{Answer, Refusal};
@@ -16,7 +16,7 @@ fn two_bytes(roll: &[u8], at: usize) -> usize
 }
 
 // The stick that a command names from byte `at` on.
-pub fn named_at(roll: &[u8], at: usize) -> Named
+fn named_at(roll: &[u8], at: usize) -> Named
     requires { at + 5 ≤ length roll.now }
     ensures { result ≡ named_at roll.now at }
 {
@@ -24,6 +24,44 @@ pub fn named_at(roll: &[u8], at: usize) -> Named
         kind: roll[at],
         column: two_bytes(roll, at + 1),
         row: two_bytes(roll, at + 3),
+    }
+}
+
+// A command of a roll.
+#[derive(Clone, Copy)]
+pub enum Command {
+    Slide(Named, u8),
+    Remove(Named),
+    Pin(Named),
+    End,
+}
+
+impl Command {
+    // How many bytes it has.
+    pub fn width(self) -> usize
+        ensures { result ≡ width (written self) }
+    {
+        match self {
+            Command::Slide(_, _) => 7,
+            Command::Remove(_) => 6,
+            Command::Pin(_) => 6,
+            Command::End => 1,
+        }
+    }
+}
+
+// The command that starts at a byte, if there is a whole one.
+pub fn command_at(roll: &[u8], at: usize) -> Option<Command>
+    requires { at < length roll.now }
+    ensures { command_of result ≡ command_at roll.now at }
+{
+    let left = roll.len() - at;
+    match roll[at] {
+        b'S' if left >= 7 => Some(Command::Slide(named_at(roll, at + 1), roll[at + 6])),
+        b'X' if left >= 6 => Some(Command::Remove(named_at(roll, at + 1))),
+        b'P' if left >= 6 => Some(Command::Pin(named_at(roll, at + 1))),
+        b'E' => Some(Command::End),
+        _ => None,
     }
 }
 
@@ -45,18 +83,13 @@ pub fn ask_roll(roll: &[u8]) -> Answer
     let length = roll.len();
     let mut at: usize = 0;
     while at < length {
-        let byte = roll[at];
-        let width = match byte {
-            b'S' => 7,
-            b'X' => 6,
-            b'P' => 6,
-            b'E' => return ask_last(length, at),
-            _ => return Err(Refusal::Malformed.at(at)),
-        };
-        if length - at < width {
+        let Some(command) = command_at(roll, at) else {
             return Err(Refusal::Malformed.at(at));
+        };
+        if let Command::End = command {
+            return ask_last(length, at);
         }
-        at += width;
+        at += command.width();
     }
     Err(Refusal::Malformed.at(at))
 }

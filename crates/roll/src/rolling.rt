@@ -1,15 +1,14 @@
 // The public call Roll: questions 1 to 8, then the commands one after the other.
-ghost use Rattle.std.specs.Prelude.{◌≡◌, List, [], ◌∷◌, ◌++◌, ℕ, ◌+◌, ◌≤◌, length, get_or};
+ghost use Rattle.std.specs.Prelude.{◌≡◌, [], ◌∷◌, ◌++◌, ◌+◌, length};
 ghost use Rattle.grid.specs.Layer.{layer_of, size_of};
 ghost use Rattle.grid.specs.Questions.{first_no};
 ghost use Rattle.grid.specs.Plain.{plain};
 ghost use Rattle.held.specs.Questions.{held_questions};
-ghost use Rattle.edit.specs.Chords.{Exact};
-ghost use Rattle.roll.specs.Commands.{named_at, roll_answer};
+ghost use Rattle.roll.specs.Commands.{roll_answer};
 ghost use Rattle.roll.specs.Roll.{outcome, run_from, roll_of};
-ghost use Rattle.roll.specs.Steps.{stepped, slide_step, removal_step, pin_step, step_of, Runnable, Readable};
+ghost use Rattle.roll.specs.Steps.{stepped, step_on, step_of, Runnable};
 
-use super::command::{ask_roll, named_at};
+use super::command::{Command, ask_roll, command_at};
 use edit::{pin, remove, slide};
 use grid::{Answer, Layer, Refusal, Refused, Size};
 
@@ -37,48 +36,28 @@ impl From<Refused> for RollRefused {
 // A command is done, and the next one starts at a byte or none is left; or one of its questions is answered no.
 type Step = Result<Option<usize>, Refused>;
 
-fn slide_at(layer: Layer, table: &mut [u16], roll: &[u8], at: usize, t: u8) -> Step
-    requires { Readable (plain layer) table.old roll.now at 7 }
-    ensures { stepped result table.new ≡ slide_step (plain layer.entry) t at table.old (named_at roll.now (at + 1)) (get_or roll.now (at + 6) 0) }
+// On to a byte, if an edit is answered yes.
+fn step_on(answer: Answer, after: usize) -> Step
+    ensures { result ≡ step_on answer after }
 {
-    let stick = named_at(roll, at + 1);
-    let offset = roll[at + 6];
-    slide(layer, table, at, stick, offset, t)?;
-    Ok(Some(at + 7))
+    answer?;
+    Ok(Some(after))
 }
 
-fn remove_at(layer: Layer, table: &mut [u16], roll: &[u8], at: usize, t: u8) -> Step
-    requires { Readable (plain layer) table.old roll.now at 6 }
-    ensures { stepped result table.new ≡ removal_step (plain layer.entry) t at table.old (named_at roll.now (at + 1)) }
-{
-    let stick = named_at(roll, at + 1);
-    remove(layer, table, at, stick, t)?;
-    Ok(Some(at + 6))
-}
-
-// A pin does not depend on the samples.
-fn pin_at(size: Size, table: &mut [u16], roll: &[u8], at: usize) -> Step
-    requires exact { Exact size table.old }
-    requires at_in_bounds { at + 6 ≤ length roll.now }
-    ensures { (bitmap : List ℕ) → stepped result table.new ≡ pin_step (layer_of size bitmap) at table.old (named_at roll.now (at + 1)) }
-{
-    let stick = named_at(roll, at + 1);
-    pin(size, table, at, stick)?;
-    Ok(Some(at + 6))
-}
-
-// The command at a byte. After question 8 it is one of the four.
+// The command at a byte. After question 8 there is one. A pin does not depend on the samples.
 fn run_command(layer: Layer, table: &mut [u16], roll: &[u8], at: usize, t: u8) -> Step
     requires { Runnable (plain layer) table.old roll.now at }
     ensures { stepped result table.new ≡ step_of (plain layer.entry) t roll.now at table.old }
 {
-    let byte = roll[at];
-    match byte {
-        b'S' => slide_at(layer, table, roll, at, t),
-        b'X' => remove_at(layer, table, roll, at, t),
-        b'P' => pin_at(layer.size, table, roll, at),
-        b'E' => Ok(None),
-        _ => Err(Refusal::Malformed.at(at)),
+    let Some(command) = command_at(roll, at) else {
+        return Err(Refusal::Malformed.at(at));
+    };
+    let after = at + command.width();
+    match command {
+        Command::Slide(stick, offset) => step_on(slide(layer, table, at, stick, offset, t), after),
+        Command::Remove(stick) => step_on(remove(layer, table, at, stick, t), after),
+        Command::Pin(stick) => step_on(pin(layer.size, table, at, stick), after),
+        Command::End => Ok(None),
     }
 }
 
