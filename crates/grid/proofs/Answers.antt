@@ -2,12 +2,12 @@
 use mathlib.Core.Path.{◌≡◌, refl, ap, sym, ◌∙◌}
 use mathlib.Core.Bool.{Bool, true, false, true≢false}
 use mathlib.Core.List.{List, [], ◌∷◌, ◌++◌}
-use Prim.Native.Nat.{ℕ, ◌+◌, ◌*◌, ◌≤◌, ◌<◌}
+use Prim.Native.Nat.{ℕ, ◌+◌, ◌-◌, ◌*◌, ◌≤◌, ◌<◌}
 use native.Mathlib.Omega.{arith}
 use borrow.Author.Tests.{lt-ltb, le-ltb, leb-true, ltb-false, eqb-true}
 use lib.Arith.{digits_div, digits_mod, digits_lt}
 use lib.Dec.{leb, ltb}
-use lib.ListN.{length}
+use lib.ListN.{length, get_or}
 use Rattle.arith.proofs.Booleans.{both-sides, and_split}
 use Rattle.arith.specs.Ranges.{least}
 use Rattle.arith.proofs.Ranges.{least-is, least-none, least_from-below}
@@ -42,6 +42,38 @@ number-within Refusal.TooFewKept = (omega arith, omega arith)
 number-within Refusal.ShortOutput = (omega arith, omega arith)
 number-within Refusal.SomeRemoved = (omega arith, omega arith)
 number-within Refusal.VertexPinned = (omega arith, omega arith)
+
+-- each question has a number of its own
+abbrev questions : List Refusal
+questions =
+    Refusal.BadSides ∷ Refusal.BitmapLength ∷ Refusal.SpareBits ∷ Refusal.BorderInside ∷
+    Refusal.TableLength ∷ Refusal.WrongEntry ∷ Refusal.NotHeld ∷ Refusal.Malformed ∷
+    Refusal.NoKeptVertex ∷ Refusal.BadOffset ∷ Refusal.NoCrossing ∷ Refusal.BeyondTolerance ∷
+    Refusal.TooFewKept ∷ Refusal.ShortOutput ∷ Refusal.SomeRemoved ∷ Refusal.VertexPinned ∷ []
+
+abbrev question_of : ℕ → Refusal
+question_of n = get_or questions (n - 1) Refusal.BadSides
+
+of-number : (q : Refusal) → question_of (number_of q) ≡ q
+of-number Refusal.BadSides = refl
+of-number Refusal.BitmapLength = refl
+of-number Refusal.SpareBits = refl
+of-number Refusal.BorderInside = refl
+of-number Refusal.TableLength = refl
+of-number Refusal.WrongEntry = refl
+of-number Refusal.NotHeld = refl
+of-number Refusal.Malformed = refl
+of-number Refusal.NoKeptVertex = refl
+of-number Refusal.BadOffset = refl
+of-number Refusal.NoCrossing = refl
+of-number Refusal.BeyondTolerance = refl
+of-number Refusal.TooFewKept = refl
+of-number Refusal.ShortOutput = refl
+of-number Refusal.SomeRemoved = refl
+of-number Refusal.VertexPinned = refl
+
+pub same-number : (p q : Refusal) → number_of p ≡ number_of q → p ≡ q
+same-number p q e = sym (of-number p) ∙ ap question_of e ∙ of-number q
 
 -- the lowest number that fails is the place of the no
 pub each-no : (q : Refusal) (f : ℕ → Bool) (n k : ℕ) → k < n → f k ≡ true → ((j : ℕ) → j < k → f j ≡ false) → No q k ≡ ask_each q f n

@@ -18,7 +18,7 @@ pub fn stride_of(size: Size) -> usize
 }
 
 // Byte `at` of row `row`.
-pub fn byte_in(size: Size, bitmap: &[u8], at: usize, row: usize) -> u8
+pub fn row_byte(size: Size, bitmap: &[u8], at: usize, row: usize) -> u8
     requires whole { Whole (layer_of size bitmap.now) }
     requires at_bound { at < stride size }
     requires row_lt_height { row < size.height }
@@ -29,12 +29,12 @@ pub fn byte_in(size: Size, bitmap: &[u8], at: usize, row: usize) -> u8
 }
 
 // Whether the sample is inside.
-pub fn sample_in(size: Size, bitmap: &[u8], column: usize, row: usize) -> bool
+pub fn is_inside(size: Size, bitmap: &[u8], column: usize, row: usize) -> bool
     requires whole { Whole (layer_of size bitmap.now) }
     requires column_lt_width { column < size.width }
     requires row_lt_height { row < size.height }
     ensures { result ≡ sample (layer_of size bitmap.now) column row }
 {
-    let byte = byte_in(size, bitmap, column / 8, row);
+    let byte = row_byte(size, bitmap, column / 8, row);
     (byte >> (column % 8)) % 2 == 1
 }

@@ -11,8 +11,7 @@ mod sound;
 pub use edge::{
     Edge, edge_at, edge_columns, edge_count, edge_in, edge_rows, kind_start, number_of, row_start,
 };
-pub use layer::{Size, byte_in, sample_in, stride_of};
+pub use layer::{Size, is_inside, row_byte, stride_of};
 pub use question::ask_layer;
 pub use refusal::{Answer, Refusal, Refused};
-pub use sample::{is_inside, row_byte};
 pub use sound::Layer;

@@ -4,7 +4,7 @@ ghost use Rattle.arith.specs.Ranges.{least_of};
 ghost use Rattle.grid.specs.Layer.{layer_of, row_end, sample_in};
 ghost use Rattle.grid.specs.Questions.{first_no, in_range, sides_answer, length_answer, spare_set, spare_answer, border_in, border_answer, layer_questions, Sized, Whole};
 
-use super::layer::{Size, byte_in, sample_in, stride_of};
+use super::layer::{Size, is_inside, row_byte, stride_of};
 use super::refusal::{Answer, Refusal};
 
 fn in_range(n: usize) -> bool
@@ -52,7 +52,7 @@ fn spare_in(size: Size, bitmap: &[u8], row: usize) -> bool
 {
     let last = stride_of(size) - 1;
     let used = size.width - 8 * last;
-    0 < usize::from(byte_in(size, bitmap, last, row)) >> used
+    0 < usize::from(row_byte(size, bitmap, last, row)) >> used
 }
 
 fn ask_spare(size: Size, bitmap: &[u8]) -> Answer
@@ -74,7 +74,7 @@ fn inside_column(size: Size, bitmap: &[u8], row: usize) -> Option<usize>
     ensures { result ≡ least_of (sample_in (layer_of size bitmap.now) row) size.width }
 {
     for column in 0..size.width {
-        if sample_in(size, bitmap, column, row) {
+        if is_inside(size, bitmap, column, row) {
             return Some(column);
         }
     }
@@ -90,10 +90,10 @@ fn border_column(size: Size, bitmap: &[u8], row: usize) -> Option<usize>
     if row == 0 || row == size.height - 1 {
         return inside_column(size, bitmap, row);
     }
-    if sample_in(size, bitmap, 0, row) {
+    if is_inside(size, bitmap, 0, row) {
         return Some(0);
     }
-    if sample_in(size, bitmap, size.width - 1, row) {
+    if is_inside(size, bitmap, size.width - 1, row) {
         return Some(size.width - 1);
     }
     None

@@ -7,7 +7,7 @@ ghost use Rattle.mask.specs.Counts.{inside_count, stick_count};
 ghost use Rattle.grid.specs.Plain.{plain};
 
 use super::mask::stick_byte;
-use grid::{Layer, edge_rows, row_byte, stride_of};
+use grid::{Layer, edge_rows, stride_of};
 
 fn ones_of(x: u8) -> usize
     ensures value { result ≡ count (bit x) 8 }
@@ -23,7 +23,7 @@ fn inside_in_row(layer: Layer, row: usize) -> usize
     let bytes = stride_of(layer.size);
     let mut total: usize = 0;
     for at in 0..bytes {
-        total += ones_of(row_byte(layer, at, row));
+        total += ones_of(layer.row_byte(at, row));
     }
     total
 }

@@ -5,7 +5,7 @@ ghost use Rattle.grid.specs.Layer.{stride, bit, follows};
 ghost use Rattle.grid.specs.Edges.{edge_rows, StickBits};
 ghost use Rattle.grid.specs.Plain.{plain};
 
-use grid::{Layer, row_byte, stride_of};
+use grid::{Layer, stride_of};
 
 // The byte of a row moved down by one sample: bit b is the sample after the one that bit b of the row's byte is.
 fn shifted_byte(layer: Layer, at: usize, row: usize) -> u8
@@ -13,9 +13,9 @@ fn shifted_byte(layer: Layer, at: usize, row: usize) -> u8
     requires row_lt_height { row < layer.size.height }
     ensures { (b : ℕ) → b < 8 → bit result b ≡ follows (plain layer.entry) (8 * at + b) row }
 {
-    let here = row_byte(layer, at, row) / 2;
+    let here = layer.row_byte(at, row) / 2;
     if at + 1 < stride_of(layer.size) {
-        return here + 128 * (row_byte(layer, at + 1, row) % 2);
+        return here + 128 * (layer.row_byte(at + 1, row) % 2);
     }
     here
 }
@@ -26,9 +26,9 @@ pub fn stick_byte(layer: Layer, vertical: bool, at: usize, row: usize) -> u8
     requires row_bound { row < edge_rows layer.size vertical }
     ensures { StickBits (plain layer.entry) vertical at row result }
 {
-    let here = row_byte(layer, at, row);
+    let here = layer.row_byte(at, row);
     if vertical {
-        return here ^ row_byte(layer, at, row + 1);
+        return here ^ layer.row_byte(at, row + 1);
     }
     here ^ shifted_byte(layer, at, row)
 }

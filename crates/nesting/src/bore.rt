@@ -7,14 +7,14 @@ ghost use Rattle.nesting.specs.Bores.{mark_bore, BoreSet};
 
 use bitset::EdgeSet;
 use contour::{ContourSet, firsts_of, mark_contour};
-use grid::{Edge, Layer, is_inside};
+use grid::{Edge, Layer};
 
 // Sets the bits of the contour that starts at `first`, if it is a bore: if the west end of its first stick is inside.
 fn mark_bore(layer: Layer, bores: &mut EdgeSet, first: Edge)
     requires { Markable (plain layer) bores.old first }
     ensures { bores.new ≡ mark_bore (plain layer.entry) bores.old first }
 {
-    if is_inside(layer, first.column, first.row) {
+    if layer.is_inside(first.column, first.row) {
         mark_contour(layer, bores, first);
     }
 }

@@ -8,7 +8,7 @@ ghost use Rattle.nesting.specs.Sweeps.{Counted, Swept, SweptAt, sweep_at};
 
 use super::set::Nesting;
 use bitset::{contains, ones_of};
-use grid::{Edge, is_inside};
+use grid::Edge;
 use mask::stick_byte;
 
 // Where a sweep stands, and how many contours are around the sample there.
@@ -26,7 +26,7 @@ fn crossed(nesting: Nesting, at: Sweep) -> usize
 {
     let layer = nesting.contours.layer;
     let bore = contains(nesting.bores, at.row * (layer.size.width - 1) + at.column);
-    if is_inside(layer, at.column, at.row) == bore {
+    if layer.is_inside(at.column, at.row) == bore {
         at.around + 1
     } else {
         at.around - 1

@@ -8,6 +8,7 @@ ghost use Rattle.grid.specs.Layer.{layer_of, size_of};
 ghost use Rattle.puzhenim.specs.Face.{trace_face, counts_face, smooth_face, simplify_face, roll_face, write_face, read_face, plan_face, measure_face, sample_face};
 
 use grid::Refusal;
+use view::Sampled;
 
 #[unsafe(no_mangle)]
 pub extern "C" fn pz_counts(
@@ -187,5 +188,5 @@ pub extern "C" fn pz_sample(
         return u32::from(Refusal::ShortOutput);
     }
     let sampled = view::sample_at(w, h, bitmap, column, row);
-    report::put_report(figures, report::sampled_report(sampled))
+    report::put_report(figures, report::sampled_report(Sampled::from(sampled)))
 }

@@ -1,9 +1,6 @@
 -- The result of each call as it is reported, over the call's own outcome. The figures of each call stand in the paper's order, 0 for the
 -- rest.
-use Rattle.std.specs.Prelude as Prelude
-use Rattle.std.specs.Prelude.{◌≡◌, Ok, Err, Bool, cond, List, ℕ, suc, ◌-◌, ◌^◌, ◌≤◌, Float, ℤ, pos, negsuc, length, set}
-use Rattle.grid.specs.Questions.{number_of}
-use Rattle.grid.specs.declared.refusal.Refused.{Refused}
+use Rattle.std.specs.Prelude.{◌≡◌, cond, List, ℕ, suc, ◌-◌, ◌^◌, ◌≤◌, Float, ℤ, pos, negsuc, length, set}
 use Rattle.trace.specs.Trace as Trace
 use Rattle.trace.specs.Counts as Counts
 use Rattle.smooth.specs.Call as Smooth
@@ -13,6 +10,7 @@ use Rattle.sheet.specs.Written as Write
 use Rattle.reading.specs.Reading as Read
 use Rattle.planner.specs.Plan as Plan
 use Rattle.area.specs.Call as Area
+use Rattle.view.specs.declared.viewing.Sampled.{Sampled}
 use Rattle.report.specs.declared.report.Report.{Report}
 
 -- the result of a call: its report, and the buffers that it was lent, as it leaves them
@@ -101,8 +99,6 @@ measure_result o =
     }
 
 -- One sample of a layer view: place, sample
-abbrev pub sample_result : Prelude.Result Bool Refused → Result (Unit {0})
-sample_result (Ok inside) =
-    record { report = record { number = 0; place = 0; first = cond inside 1 0; second = 0; third = 0 }; buffers = tt }
-sample_result (Err e) =
-    record { report = record { number = number_of e.question; place = e.place; first = 0; second = 0; third = 0 }; buffers = tt }
+abbrev pub sample_result : Sampled → Result (Unit {0})
+sample_result s =
+    record { report = record { number = s.number; place = s.place; first = cond s.inside 1 0; second = 0; third = 0 }; buffers = tt }

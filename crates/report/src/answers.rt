@@ -18,6 +18,7 @@ use roll::RollRefused;
 use simplify::RunCounts;
 use smooth::Settling;
 use trace::Counted;
+use view::Sampled;
 
 pub fn traced_report(answer: Answer) -> Report
     ensures { (t : List ℕ) → record { report = result; buffers = t } ≡ trace_result (Trace.outcome answer t) }
@@ -104,11 +105,14 @@ pub fn measured_report(answer: Result<area::Measures, Refused>) -> Report
     }
 }
 
-pub fn sampled_report(answer: Result<bool, Refused>) -> Report
-    ensures { record { report = result; buffers = tt } ≡ sample_result answer }
+pub fn sampled_report(sampled: Sampled) -> Report
+    ensures { record { report = result; buffers = tt } ≡ sample_result sampled }
 {
-    match answer {
-        Ok(inside) => done_report(usize::from(inside), 0, 0),
-        Err(no) => refused_report(no),
+    Report {
+        number: sampled.number,
+        place: sampled.place,
+        first: usize::from(sampled.inside),
+        second: 0,
+        third: 0,
     }
 }

@@ -8,7 +8,7 @@ ghost use Rattle.step.specs.Turns.{Entered, leaving};
 ghost use Rattle.step.specs.declared.cell.Side.TheVariants.{South, East, North, West};
 
 use super::cell::{CellSide, Side, edge_of, linked_in};
-use grid::{Edge, Layer, is_inside};
+use grid::{Edge, Layer};
 
 // The edge that is linked to a side of a cell with this pattern.
 fn leave(column: usize, row: usize, pattern: usize, side: Side) -> Edge
@@ -29,8 +29,8 @@ pub fn from_south(layer: Layer, column: usize, row: usize, left: bool) -> Edge
     requires { Entered (plain layer) column row South left }
     ensures { result ≡ leaving (plain layer.entry) column row South }
 {
-    let nw = is_inside(layer, column, row + 1);
-    let ne = is_inside(layer, column + 1, row + 1);
+    let nw = layer.is_inside(column, row + 1);
+    let ne = layer.is_inside(column + 1, row + 1);
     if left {
         if nw {
             if ne {
@@ -60,8 +60,8 @@ pub fn from_east(layer: Layer, column: usize, row: usize, left: bool) -> Edge
     requires { Entered (plain layer) column row East left }
     ensures { result ≡ leaving (plain layer.entry) column row East }
 {
-    let sw = is_inside(layer, column, row);
-    let nw = is_inside(layer, column, row + 1);
+    let sw = layer.is_inside(column, row);
+    let nw = layer.is_inside(column, row + 1);
     if left {
         if sw {
             if nw {
@@ -91,8 +91,8 @@ pub fn from_north(layer: Layer, column: usize, row: usize, left: bool) -> Edge
     requires { Entered (plain layer) column row North left }
     ensures { result ≡ leaving (plain layer.entry) column row North }
 {
-    let sw = is_inside(layer, column, row);
-    let se = is_inside(layer, column + 1, row);
+    let sw = layer.is_inside(column, row);
+    let se = layer.is_inside(column + 1, row);
     if left {
         if sw {
             if se {
@@ -122,8 +122,8 @@ pub fn from_west(layer: Layer, column: usize, row: usize, left: bool) -> Edge
     requires { Entered (plain layer) column row West left }
     ensures { result ≡ leaving (plain layer.entry) column row West }
 {
-    let se = is_inside(layer, column + 1, row);
-    let ne = is_inside(layer, column + 1, row + 1);
+    let se = layer.is_inside(column + 1, row);
+    let ne = layer.is_inside(column + 1, row + 1);
     if left {
         if se {
             if ne {

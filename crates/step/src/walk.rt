@@ -5,14 +5,14 @@ ghost use Rattle.step.specs.Walk.{upward, next, prev};
 ghost use Rattle.grid.specs.Plain.{plain};
 
 use super::turn::{from_east, from_north, from_south, from_west};
-use grid::{Edge, Layer, is_inside};
+use grid::{Edge, Layer};
 
 // Whether the contour crosses the stick to the north or to the east.
 fn is_upward(layer: Layer, e: Edge) -> bool
     requires stick { is_stick (plain layer) e ≡ true }
     ensures { result ≡ upward (plain layer.entry) e }
 {
-    let inside = is_inside(layer, e.column, e.row);
+    let inside = layer.is_inside(e.column, e.row);
     if e.vertical { !inside } else { inside }
 }
 

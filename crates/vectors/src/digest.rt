@@ -1,6 +1,6 @@
 // The digest of a table or of an output: a number below 2^31 - 1 that tells them apart well enough.
 // For tables and bytes the contract says what it is.
-ghost use Rattle.std.specs.Prelude.{◌≡◌};
+ghost use Rattle.std.specs.Prelude.{◌≡◌, ◌<◌};
 ghost use Rattle.vectors.specs.Digest.{mixed, digest_of};
 
 fn mix(h: u32, x: u16) -> u32
@@ -10,7 +10,9 @@ fn mix(h: u32, x: u16) -> u32
 }
 
 // A number of 64 bits goes in by its four pieces of 16 bits, the lowest first.
-fn mix_bits(h: u32, bits: u64) -> u32 {
+fn mix_bits(h: u32, bits: u64) -> u32
+    ensures { result < 2147483647 }
+{
     let [a, b, c, d, e, f, g, i] = bits.to_le_bytes();
     let h = mix(h, u16::from_le_bytes([a, b]));
     let h = mix(h, u16::from_le_bytes([c, d]));

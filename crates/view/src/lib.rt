@@ -3,4 +3,4 @@
 
 mod viewing;
 
-pub use viewing::{View, make_view, sample, sample_at};
+pub use viewing::{Sampled, View, make_view, sample, sample_at};

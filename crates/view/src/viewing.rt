@@ -1,7 +1,7 @@
 // The layer view: a lent bitmap with its sides, made by one call and read by another.
 ghost use Rattle.std.specs.Prelude.{◌≡◌};
 ghost use Rattle.grid.specs.Layer.{layer_of, size_of};
-ghost use Rattle.view.specs.View.{shown, view_of, sample_or_outside, sample_of};
+ghost use Rattle.view.specs.View.{shown, view_of, sample_or_outside, outcome, sample_of};
 
 use grid::{Refused, Size};
 
@@ -12,6 +12,33 @@ pub struct View<'a> {
     pub width: u16,
     pub height: u16,
     pub refused: Option<Refused>,
+}
+
+// What reading a sample comes to in numbers: the number and place of the refusal, both 0 if there is none, and whether the sample is inside.
+#[derive(Clone, Copy)]
+pub struct Sampled {
+    pub number: u32,
+    pub place: usize,
+    pub inside: bool,
+}
+
+impl From<Result<bool, Refused>> for Sampled {
+    ghost from_gives = { λ answer sampled. sampled ≡ outcome answer };
+
+    fn from(answer: Result<bool, Refused>) -> Sampled {
+        match answer {
+            Ok(inside) => Sampled {
+                number: 0,
+                place: 0,
+                inside,
+            },
+            Err(no) => Sampled {
+                number: u32::from(no.question),
+                place: no.place,
+                inside: false,
+            },
+        }
+    }
 }
 
 // Puts questions 1 to 4 and makes the record.
@@ -53,7 +80,7 @@ pub fn sample<'a>(v: View<'a>, column: u16, row: u16) -> bool
 
 // One sample by a view that is made for it.
 pub fn sample_at(w: u16, h: u16, bitmap: &[u8], column: u16, row: u16) -> Result<bool, Refused>
-    ensures { result ≡ sample_of (layer_of (size_of w h) bitmap.now) column row }
+    ensures { outcome result ≡ sample_of (layer_of (size_of w h) bitmap.now) column row }
 {
     let view = make_view(w, h, bitmap);
     match view.refused {

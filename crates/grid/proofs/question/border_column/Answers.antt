@@ -4,18 +4,18 @@ use Rattle.grid.specs.Layer.{layer_of}
 use Rattle.grid.proofs.Borders.{Inner, lowest-west, lowest-east, lowest-none}
 use Rattle.grid.proofs.question.border_column.Goals as goal
 
-pub returns-then-sample_in : goal.returns-then-sample_in
-returns-then-sample_in c = lowest-west _ _ c.requires.whole.sized (sym c.sample_in.ensures ∙ c.if-sample_in.true)
+pub returns-then-is_inside : goal.returns-then-is_inside
+returns-then-is_inside c = lowest-west _ _ c.requires.whole.sized (sym c.is_inside.ensures ∙ c.if-is_inside.true)
 
-pub returns-then-sample_in-2 : goal.returns-then-sample_in-2
-returns-then-sample_in-2 c =
+pub returns-then-is_inside-2 : goal.returns-then-is_inside-2
+returns-then-is_inside-2 c =
     let inner : (let a = c.args in Inner (layer_of a.size a.bitmap.now) a.row) =
     record {
       not_bottom = c.if-row-eq0.false;
       not_top = c.if-row-size.false;
-      west_outside = sym c.sample_in.ensures ∙ c.if-sample_in.false;
+      west_outside = sym c.is_inside.ensures ∙ c.if-is_inside.false;
     } in
-    lowest-east _ _ c.requires.whole.sized inner (sym c.sample_in-2.ensures ∙ c.if-sample_in-2.true)
+    lowest-east _ _ c.requires.whole.sized inner (sym c.is_inside-2.ensures ∙ c.if-is_inside-2.true)
 
 pub returns : goal.returns
 returns c =
@@ -23,6 +23,6 @@ returns c =
     record {
       not_bottom = c.if-row-eq0.false;
       not_top = c.if-row-size.false;
-      west_outside = sym c.sample_in.ensures ∙ c.if-sample_in.false;
+      west_outside = sym c.is_inside.ensures ∙ c.if-is_inside.false;
     } in
-    lowest-none _ _ inner (sym c.sample_in-2.ensures ∙ c.if-sample_in-2.false)
+    lowest-none _ _ inner (sym c.is_inside-2.ensures ∙ c.if-is_inside-2.false)

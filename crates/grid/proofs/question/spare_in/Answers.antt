@@ -10,4 +10,4 @@ pub returns : goal.returns
 returns c =
     let size = c.args.size in
     let within : stride size - 1 < stride size = omega (arith, last_byte size c.requires.whole.sized) in
-    rw (c.from.ensures, c.byte_in.ensures, c.stride_of-last.ensures, digits_mod c.args.row within)
+    rw (c.from.ensures, c.row_byte.ensures, c.stride_of-last.ensures, digits_mod c.args.row within)

@@ -1,11 +1,11 @@
--- `byte_in` meets its contract: the byte's place is below the bitmap's length.
+-- `row_byte` meets its contract: the byte's place is below the bitmap's length.
 use Prim.Native.Nat.{◌+◌, ◌*◌, ◌<◌}
 use native.Mathlib.Omega.{arith}
 use lib.ListN.{length}
 use Rattle.grid.specs.Layer.{layer_of}
 use Rattle.grid.proofs.Samples.{byte-below}
-use Rattle.grid.proofs.layer.byte_in.Goals as goal
-use Rattle.grid.proofs.layer.byte_in.Goals.{After-stride_of}
+use Rattle.grid.proofs.layer.row_byte.Goals as goal
+use Rattle.grid.proofs.layer.row_byte.Goals.{After-stride_of}
 
 below : (c : After-stride_of)
     → c.args.row * c.stride_of.result + c.args.at < length c.args.bitmap.now
