@@ -1,5 +1,5 @@
--- What the set of first sticks tells: how many contours there are, and that no vertical edge is first. A loop over contours goes by the cursor
--- (Cursors.antt).
+-- What the set of first sticks tells: how many contours there are, and that no vertical edge is first. A loop over contours goes by
+-- Firsts.antt.
 use mathlib.Core.Path.{◌≡◌, sym, ◌∙◌}
 use mathlib.Core.Bool.{Bool, true, false}
 use mathlib.Core.List.{List}

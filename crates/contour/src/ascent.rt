@@ -7,7 +7,7 @@ use bitset::next_first;
 use grid::{Edge, edge_in, kind_start};
 
 // Those with number `from` or above. First sticks are horizontal, so the search ends where the vertical edges begin.
-#[derive(Drop)]
+#[derive(Clone, Copy)]
 pub struct FirstSticks<'l, 's> {
     pub contours: ContourSet<'l, 's>,
     pub from: usize,

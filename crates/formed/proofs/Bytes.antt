@@ -73,7 +73,7 @@ module _ (s : List ℕ) where
       stands-room (contour_command f) i (contour-bytes f) (omega (arith, byte-within i 0x43 (omega arith) letter)) e
 
   -- a vertex command
-  vertex-short : (i : ℕ) → i ≤ length s → length s < i + 2 → false ≡ vertex_at s i
+  pub vertex-short : (i : ℕ) → i ≤ length s → length s < i + 2 → false ≡ vertex_at s i
   vertex-short i w short =
       let none : get_or s (i + 1) 0 ≡ 0 = get_or-eq_default s 0 {n = i + 1} (omega arith) in
       rw (none, and-false (vertex_letter (get_or s i 0)))

@@ -4,13 +4,18 @@ use mathlib.Core.Bool.{true, false, true≢false}
 use Prim.Native.Nat.{ℕ, ◌+◌, ◌*◌, ◌^◌, ◌≤◌, ◌<◌}
 use native.Mathlib.Nat.{mul-one, eq_of_mul-eq-mul_right, lt_of_lt_of_le}
 use native.Mathlib.Omega.{arith}
-use lib.Dec.{T}
+use lib.Dec.{T, le→leb}
 use lib.IntN.{ℤ, pos}
 use lib.Pow.{shl_lt, pow_mono}
-use lib.Ieee.{Float, nan, inf, fin, binary64, of_int, div, round, fits, up, down, of_bits}
+use lib.Ieee.{Float, nan, inf, fin, binary64, of_int, div, round, fits, in_float, up, down, of_bits}
 use lib.Ieee.Exact.{HasValue, round_exact}
 use lib.Ieee.Fits.{div-fits, down_pos}
 use Rattle.item.specs.Items.{in_samples}
+
+-- the cast loses nothing
+pub in-float : (n : ℕ) → n ≤ 262144 → T (in_float binary64 (pos n))
+unfolding in_float
+in-float n h = le→leb n (2 ^ 53) (omega arith)
 
 -- so few digits, moved up so far, stay below the infinities
 below : (n j : ℕ) → n ≤ 262144 → 19 + j ≤ 2098 → n * 2 ^ j < 2 ^ 2098

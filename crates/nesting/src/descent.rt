@@ -10,7 +10,7 @@ use super::sweep::{Sweep, sweep_to};
 use contour::FirstSticks;
 
 // The first sticks that are still to come, and where the sweep stands: at the west end of the last one.
-#[derive(Drop)]
+#[derive(Clone, Copy)]
 pub struct NestedFirsts<'l, 's, 'b> {
     pub nesting: Nesting<'l, 's, 'b>,
     pub firsts: FirstSticks<'l, 's>,

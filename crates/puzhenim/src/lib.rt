@@ -187,6 +187,6 @@ pub extern "C" fn pz_sample(
     if figures.len() < 4 {
         return u32::from(Refusal::ShortOutput);
     }
-    let sampled = view::sample_at(w, h, bitmap, column, row);
-    report::put_report(figures, report::sampled_report(Sampled::from(sampled)))
+    let sampled = Sampled::from(view::sample_at(w, h, bitmap, column, row));
+    report::put_report(figures, report::sampled_report(sampled))
 }

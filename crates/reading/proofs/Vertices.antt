@@ -78,7 +78,7 @@ vertex-says a o h small =
 -- Along a contour
 
 module _ {L : Layer} {first : Vertex} where
-  first-expected : Sound L → is_stick L first.stick ≡ true → VertexExpected L first first
+  pub first-expected : Sound L → is_stick L first.stick ≡ true → VertexExpected L first first
   unfolding ahead
   first-expected sound stick =
       record {

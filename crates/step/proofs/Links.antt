@@ -1,6 +1,8 @@
 -- The links of the sixteen patterns. Each law is a test that antt computes over all patterns and sides, and `at` turns a test into the law.
 use mathlib.Core.Path.{◌≡◌, refl, ap, sym, ◌∙◌}
 use mathlib.Core.Bool.{Bool, true, not, ◌&&◌, ◌||◌, xor, beq}
+use Prim.Native.Nat.{◌<◌}
+use native.Mathlib.Omega.{arith}
 use lib.Dec.{T, eqb, eqb→eq}
 use Rattle.arith.specs.Booleans.{all}
 use Rattle.arith.proofs.Booleans.{at_all, and_T, beq→eq, implied}
@@ -90,3 +92,10 @@ near-stick k s h =
     eqb→eq (near k s) (near_by (inside_left k s) s)
     (implied (cut k s) (eqb (near k s) (near_by (inside_left k s) s))
     (at (λ k s. not (cut k s) || eqb (near k s) (near_by (inside_left k s) s)) tt k s) h)
+
+-- a side's number is that of its two bits in an entry of the table
+pub side_index-below : (s : Side) → side_index s < 4
+side_index-below South = omega arith
+side_index-below East = omega arith
+side_index-below North = omega arith
+side_index-below West = omega arith

@@ -6,5 +6,5 @@ pub returns-then-figures-lt4 : goal.returns-then-figures-lt4
 returns-then-figures-lt4 c = short-face _ _ _ c.from.ensures c.if-figures-lt4.true
 
 pub returns : goal.returns
-returns c = rw (← c.sample_at-sampled.ensures)
+returns c = rw (← c.sample_at.ensures, ← c.from-sampled.ensures)
     (stored-face _ c.put_report.ensures c.sampled_report.ensures)
