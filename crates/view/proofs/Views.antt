@@ -81,6 +81,15 @@ one-outcome (Err x) (Err y) e =
     let q = same-number x.question y.question (ap (λ (s : Sampled). s.number) e) in
     λ k. Err (record { question = q k; place = (e k).place })
 
+-- the number and place that a view shows tell its refusal
+pub one-refused : (a b : Option Refused) → number_in a ≡ number_in b → place_in a ≡ place_in b → a ≡ b
+one-refused None None n p = refl
+one-refused None (Some y) n p = let h = number-within y.question in absurd (omega arith)
+one-refused (Some x) None n p = let h = number-within x.question in absurd (omega arith)
+one-refused (Some x) (Some y) n p =
+    let q = same-number x.question y.question n in
+    λ k. Some (record { question = q k; place = p k })
+
 -- a sample by the byte that it stands in, and one off the grid
 module _ (L : Layer) (c r : ℕ) where
   pub on-grid : {byte : ℕ} → c < L.size.width → r < L.size.height → byte ≡ get_or L.bitmap (r * ((L.size.width + 7) / 8) + c / 8) 0
